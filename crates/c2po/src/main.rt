@@ -2,7 +2,7 @@
 #![tactic(auto)]
 
 ghost use Rattle.std.specs.Process.{exit_status};
-ghost use Rattle.c2po.specs.Ending.{EndsBy};
+ghost use Rattle.c2po.specs.Ending.{CompilerEnds};
 
 use mltl_tools::{Status, Words, c2po_main, words_of};
 use std::alloc::{AllocError, Global};
@@ -11,8 +11,8 @@ use tool_io::{Host, RealHost};
 
 /// Runs the command line of these arguments, unless out of memory for them. Returns how the program ends.
 fn run<H: Host>(alloc: Global, words: Result<Words, AllocError>, host: &mut H) -> ExitCode
-    ensures { EndsBy words (exit_status result) (H.faults host.old) (H.faults host.new)
-        (H.log host.old) (H.log host.new) }
+    ensures { CompilerEnds words (exit_status result)
+        (H.faults host.old) (H.faults host.new) (H.log host.old) (H.log host.new) }
 {
     match words {
         Ok(words) => ExitCode::from(c2po_main(alloc, &words, host).code()),
@@ -21,9 +21,6 @@ fn run<H: Host>(alloc: Global, words: Result<Words, AllocError>, host: &mut H) -
 }
 
 fn main(rt: HostRuntime) -> ExitCode {
-    run(
-        rt.alloc(),
-        words_of(rt.alloc(), &rt),
-        &mut RealHost::new(rt),
-    )
+    let words = words_of(rt.alloc(), &rt);
+    run(rt.alloc(), words, &mut RealHost::new(rt))
 }

@@ -23,7 +23,8 @@ use Rattle.tool_words.proofs.LineLaws.{text_short}
 use Rattle.c2po_cli.specs.declared.make.Form.{Form}
 use Rattle.tool_words.specs.FirstLine.{begins_long}
 use Rattle.c2po_cli.specs.Images.{WritesImage}
-use Rattle.c2po_cli.specs.Made.{compile_status, compiled_bytes, text_bytes, unless_long, first_line, made_of_text}
+use Rattle.tool_words.specs.Statuses.{compile_status}
+use Rattle.c2po_cli.specs.Made.{compiled_bytes, text_bytes, unless_long, first_line, made_of_text}
 use Rattle.c2po_cli.specs.Phases.{IsRefusal, RefusesAlone, ReadsLine, LineLog, HeaderLog, RefusedLog, MadeLog}
 use Rattle.c2po_cli.proofs.MakingLaws.{headed, refused_by, refused_so}
 

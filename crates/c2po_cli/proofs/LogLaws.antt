@@ -15,20 +15,14 @@ use Rattle.c2po_cli.specs.Phases.{OnlySources, OnlyOut}
 
 -- a place that is read isn't one that is written
 source_not_out : (p : place.Place) → IsSource p → same_place at.Out p ≡ false
-source_not_out at.Spec is = refl
-source_not_out at.Header is = refl
-source_not_out at.Program is = refl
-source_not_out at.Trace is = refl
 source_not_out at.Out is = absurd is
 source_not_out at.Err is = absurd is
+source_not_out _ is = refl
 
 source_not_err : (p : place.Place) → IsSource p → same_place at.Err p ≡ false
-source_not_err at.Spec is = refl
-source_not_err at.Header is = refl
-source_not_err at.Program is = refl
-source_not_err at.Trace is = refl
 source_not_err at.Out is = absurd is
 source_not_err at.Err is = absurd is
+source_not_err _ is = refl
 
 -- reads of sources write nothing and don't attach the output
 pub sources_given : (q : place.Place) (events : List Event) → OnlySources events → given q events ≡ []
@@ -159,11 +153,7 @@ took_unattached q p (piece ∷ pieces) = took_unattached q p pieces
 
 attached_self : (p : place.Place) (events : List Event) → (same_place p p || is_attached p events) ≡ true
 attached_self at.Spec events = refl
-attached_self at.Header events = refl
-attached_self at.Program events = refl
-attached_self at.Trace events = refl
-attached_self at.Out events = refl
-attached_self at.Err events = refl
+attached_self _ events = refl
 
 pub has_read : (p : place.Place) (name bytes : List ℕ) (ended : Bool) (log : List Event) → IsSource p → Draws p bytes ended log → HasRead p name bytes ended (Attached p name ∷ log)
 has_read p name bytes ended log source takes =

@@ -23,8 +23,9 @@ use Rattle.tool_words.specs.declared.status.Status.{Status}
 use Rattle.tool_words.specs.declared.status.Status.TheVariants.{Memory}
 use Rattle.c2po_cli.specs.declared.make.Form.{Form}
 use Rattle.tool_words.specs.FirstLine.{begins_long}
-use Rattle.c2po_cli.specs.Made.{compile_status, compiled_bytes, image_by, asked_program, text_bytes, written_as, unless_long, first_line, made_of_text}
-use Rattle.c2po_cli.specs.Phases.{RefusesAlone}
+use Rattle.tool_words.specs.Statuses.{compile_status}
+use Rattle.c2po_cli.specs.Made.{compiled_bytes, image_by, asked_program, text_bytes, written_as, unless_long, first_line, made_of_text}
+use Rattle.c2po_cli.specs.Phases.{IsRefusal, RefusesAlone}
 
 -- a text is refused alike in both forms
 pub refused_by : (simplify : Bool) (text : List ℕ) (header : Option (List ℕ)) (fault : CompileFault) → image_of_text text header ≡ Err fault → asked_program simplify text header ≡ Err fault
@@ -53,6 +54,12 @@ pub limit_refuses : (form : Form) (text : List ℕ) (header : Option (List ℕ))
     → columns_by (signals_of items) header ≡ Ok columns → IsFirstRefusal (limit_refusal (over_columns columns (outputs_of items))) fault → compile_status fault ≢ Memory → text_bytes form text header ≡ Err (compile_status fault)
 limit_refuses form text header items columns fault none same found refused some =
     ap (compiled_bytes form.table) (refused_by form.simplify text header fault (back_refuses text header items columns (Err fault) none same found refused (λ memory. some (ap compile_status memory))))
+
+-- each is a refusal
+pub compile_refuses : (fault : CompileFault) → IsRefusal (compile_status fault)
+compile_refuses (compile.Refused line why) = tt
+compile_refuses (compile.BadHeader why) = tt
+compile_refuses compile.Memory = tt
 
 -- without a header line neither tells of a header
 pub alone_columns : (signals : List Signal) (header : Option (List ℕ)) (fault : CompileFault) → header ≡ None → (fault ≢ compile.Memory → refusal_in header_refusal (columns_by signals header) ≡ Some fault) → RefusesAlone (compile_status fault)

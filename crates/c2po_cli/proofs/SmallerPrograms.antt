@@ -22,7 +22,8 @@ use Rattle.tool_words.specs.Causes.{RunCause}
 use Rattle.c2po_cli.specs.declared.make.Form.{Form}
 use Rattle.c2po_cli.specs.Asking.{Ask, help, make, nothing}
 use Rattle.c2po_cli.specs.Images.{asked_header}
-use Rattle.c2po_cli.specs.Made.{asked_program, compile_status, compiled_bytes, first_line, made, made_as, made_of_text, text_bytes, unless_long, written_as}
+use Rattle.tool_words.specs.Statuses.{compile_status}
+use Rattle.c2po_cli.specs.Made.{asked_program, compiled_bytes, first_line, made, made_as, made_of_text, text_bytes, unless_long, written_as}
 use Rattle.c2po_cli.specs.Run.{seen, MakeOutcome, OutcomeOf, Ran}
 use Rattle.c2po_cli.specs.Written.{IsNoLarger, NeedsNoMore}
 use Rattle.c2po_cli.proofs.MainLaws.{main_ran}

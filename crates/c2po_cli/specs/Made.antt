@@ -19,7 +19,6 @@ use Rattle.obs_show.specs.Limits.{show_fault as limit_of_text}
 use Rattle.obs_show.specs.Text.{text as text_of}
 use Rattle.obs_show.specs.Table.{table}
 use Rattle.c2po_compile.specs.declared.fault.CompileFault.{CompileFault}
-use Rattle.c2po_compile.specs.declared.fault.CompileFault.TheVariants as compile_fault
 use Rattle.c2po_compile.specs.declared.fault.Refusal.TheVariants.{Wide}
 use Rattle.c2po_compile.specs.Front.{first_refusal}
 use Rattle.c2po_compile.specs.Compiled.{image_of_text}
@@ -27,19 +26,14 @@ use Rattle.c2po_compile.specs.Refusals.{unless_refused}
 use Rattle.c2po_compile.specs.Image.{image}
 use Rattle.c2po_compile.specs.Simplified.{simple_image, simple_image_of_text}
 use Rattle.tool_words.specs.declared.status.Status.{Status}
-use Rattle.tool_words.specs.declared.status.Status.TheVariants.{Refused, BadProgram, BadHeader, TextTooLong, Memory}
+use Rattle.tool_words.specs.declared.status.Status.TheVariants.{Refused, BadProgram, TextTooLong, Memory}
 use Rattle.tool_words.specs.Files.{file_status}
 use Rattle.tool_words.specs.FirstLine.{begins_long}
+use Rattle.tool_words.specs.Statuses.{compile_status}
 use Rattle.c2po_cli.specs.declared.make.Form.{Form}
 use Rattle.c2po_cli.specs.declared.make.Product.{Product}
 use Rattle.c2po_cli.specs.declared.make.Product.TheVariants.{Compiled, Upgrade, Show}
 use Rattle.c2po_cli.specs.Asking.{MakeAsked}
-
--- the status of a run whose specification isn't compiled
-abbrev pub compile_status : CompileFault → Status
-compile_status (compile_fault.Refused line refusal) = Refused line refusal
-compile_status (compile_fault.BadHeader why) = BadHeader why
-compile_status compile_fault.Memory = Memory
 
 -- what is written of a compiled program: its table, or its bytes
 abbrev pub written_as : Bool → Program → List ℕ

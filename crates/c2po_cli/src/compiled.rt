@@ -14,7 +14,7 @@ ghost use Rattle.c2po_compile.specs.Compiled.{limit_over};
 ghost use Rattle.c2po_compile.specs.Refusals.{IsFirstRefusal};
 ghost use Rattle.c2po_cli.specs.Phases.{IsRefusal, RefusesAlone};
 ghost use Rattle.c2po_cli.specs.Images.{WritesImage};
-ghost use Rattle.c2po_cli.specs.Made.{compile_status, image_by, text_bytes, written_as};
+ghost use Rattle.c2po_cli.specs.Made.{image_by, text_bytes, written_as};
 
 use crate::make::Form;
 use c2po_compile::{CompileFault, back, back_simple, columns_of};
@@ -66,6 +66,7 @@ fn program_of(
 
 /// Makes what is written of a specification whose signals are in the columns of a header line, or in order of
 /// declaration.
+#[tactic(auto, using(crate::proofs::MakingLaws::compile_refuses))]
 pub(crate) fn compiled_bytes(
     alloc: Global,
     spec: &TypedSpec,
@@ -85,18 +86,7 @@ pub(crate) fn compiled_bytes(
     ensures refuses { IfErr result IsRefusal }
     ensures alone { header.entry ≡ None → IfErr result RefusesAlone }
 {
-    let columns = columns_of(alloc, spec, header).map_err(status_of_compile)?;
-    let checked = program_of(alloc, spec, &columns, form.simplify).map_err(status_of_compile)?;
+    let columns = columns_of(alloc, spec, header)?;
+    let checked = program_of(alloc, spec, &columns, form.simplify)?;
     written(alloc, form.table, &checked)
-}
-
-pub(crate) fn status_of_compile(fault: CompileFault) -> Status
-    ensures status { result ≡ compile_status fault }
-    ensures refuses { IsRefusal result }
-{
-    match fault {
-        CompileFault::Refused(line, why) => Status::Refused(line, why),
-        CompileFault::BadHeader(why) => Status::BadHeader(why),
-        CompileFault::Memory => Status::Memory,
-    }
 }

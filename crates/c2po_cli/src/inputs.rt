@@ -11,7 +11,7 @@ ghost use Rattle.tool_words.specs.Files.{file_limit};
 ghost use Rattle.c2po_cli.specs.Asking.{file_kind as kind_of, make_of};
 ghost use Rattle.c2po_cli.specs.Phases.{AfterLog, GatherLog, SpecLog, TextLog};
 
-use crate::compiled::{compiled_bytes, status_of_compile};
+use crate::compiled::compiled_bytes;
 use crate::header_file::under_header;
 use crate::make::{Form, Make, Product};
 use crate::upgrade::{shown_text, upgraded_bytes};
@@ -53,7 +53,7 @@ fn of_text<H: Host>(
     ensures log { OnLog (H.log host.old) (H.log host.new)
         (TextLog result form (option_map (λ name. name.now) header.entry) text.now) }
 {
-    let spec = front(alloc, text).map_err(status_of_compile)?;
+    let spec = front(alloc, text)?;
     of_spec(alloc, &spec, header, form, host)
 }
 

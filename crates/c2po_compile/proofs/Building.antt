@@ -1,6 +1,6 @@
 -- The image of sound outputs within the limits is well-formed.
 
-use Rattle.std.proofs.Common.{◌≡◌, ℕ, ◌<◌, ◌≤◌, ◌^◌, true, None, List, [], All, Any, length, slice_index_or, refl, sym, ap, ap₂, subst, ◌∙◌, arith, inr}
+use Rattle.std.proofs.Common.{◌≡◌, ℕ, ◌<◌, ◌≤◌, ◌^◌, true, None, Result, Err, List, [], All, Any, length, slice_index_or, refl, sym, ap, ap₂, subst, ◌∙◌, arith, inr}
 use Rattle.std.proofs.lemmas.Bool.{le-leb, ltb-true}
 use Rattle.std.proofs.lemmas.List.{length-map}
 use Rattle.std.proofs.lemmas.List.FromFn.{length-map-range_with_len}
@@ -28,7 +28,9 @@ use Rattle.c2po_nodes.specs.Nodes.{trees}
 use Rattle.c2po_nodes.specs.Outputs.{asked, asked_by, asked_in, asked_over}
 use Rattle.mltl_base.specs.declared.signal.Signal.{Signal}
 use Rattle.mltl_base.proofs.Picking.{all_listed, cores_atoms, cores_of_engine}
-use Rattle.core_graph.specs.Limits.{AreFew}
+use Rattle.core_graph.specs.declared.graph.GraphFault.{GraphFault}
+use Rattle.core_graph.specs.declared.graph.GraphFault.TheVariants as core
+use Rattle.core_graph.specs.Limits.{AreFew, AreMany}
 use Rattle.delay_sizes.specs.Sizing.{IsSizable}
 use Rattle.obs_verify.specs.declared.fault.VerifyFault.TheVariants.{Width, TooManySlots}
 use Rattle.obs_verify.specs.Layout.{HasLayout}
@@ -41,7 +43,7 @@ use Rattle.c2po_compile.specs.declared.build_fault.BuildFault.TheVariants.{TooMa
 use Rattle.mltl_base.specs.Kinds.{kinds_of}
 use Rattle.c2po_compile.specs.Conditions.{IsBuildable}
 use Rattle.c2po_compile.specs.Images.{IsImageOf, stored_signals}
-use Rattle.c2po_compile.specs.BuildLimits.{IsReason, IsSizeReason, IsWithinLimits, slots_needed}
+use Rattle.c2po_compile.specs.BuildLimits.{IsReason, IsSizeReason, IsWithinLimits, graph_limit, slots_needed}
 use Rattle.c2po_compile.proofs.Parts.{AtCore, fold_expressions_all}
 use Rattle.c2po_compile.proofs.Cores.{deep_then, each_then}
 use Rattle.c2po_compile.proofs.Reading.{IsReadable}
@@ -79,12 +81,8 @@ is_draft spec signals columns graph h = record {
 }
 
 at_core : (program : Program) (p : Core) → IsFit program p → AtCore (IsReadable program) p
-at_core program ctrue h = tt
 at_core program (catom a) h = h
-at_core program (cnot p) h = tt
-at_core program (cand p q) h = tt
-at_core program (cuntil i p q) h = tt
-at_core program (csince i p q) h = tt
+at_core program _ h = tt
 
 names : (fts pts : ℕ) (output : Out) → reports_within fts pts output ≡ true → NamesInstructions fts pts output
 names fts pts (out.Formula engine.Ft g name) h = ltb-true g fts h
@@ -239,6 +237,11 @@ built spec signals columns program ready draft few queues boxes in_time fits = r
   well_formed = well_formed spec signals columns program ready draft few queues boxes in_time fits;
   image = record { version = draft.version; width = draft.width; lists = draft.lists; queues = queues; boxes = boxes; inputs = draft.kept };
 }
+
+-- why there is no graph
+pub graph_reason : (asks : List Asked) (fault : GraphFault) → (◌≡◌ {A = Result Graph GraphFault} (Err fault) (Err core.TooManyNodes) → AreMany asks) → IsReason asks (graph_limit fault)
+graph_reason asks core.TooManyNodes many = many refl
+graph_reason asks core.Memory many = tt
 
 -- why a graph has no sizes, as a limit of the outputs
 pub reason : (asks : List Asked) (graph : Graph) (fault : BuildFault) → IsGraphOf asks graph → AreFew asks → IsSizeReason graph fault → IsReason asks fault

@@ -35,12 +35,8 @@ AtHead A B _ = ⊤
 module _ (A : Atom → Type 0) (B : Interval → Type 0) where
   neg_deep : (p : Core) → Deep (AtHead A B) p → Deep (AtHead A B) (neg p)
   unfolding neg
-  neg_deep ctrue h = (tt, h)
-  neg_deep (catom a) h = (tt, h)
   neg_deep (cnot p) h = h.1
-  neg_deep (cand p q) h = (tt, h)
-  neg_deep (cuntil i p q) h = (tt, h)
-  neg_deep (csince i p q) h = (tt, h)
+  neg_deep _ h = (tt, h)
 
   -- where A holds of an atom's core form too
   pub core_deep : ((a : Atom) → A a → Deep (AtHead A B) (core_atom a)) → (p : Formula) → Throughout A B p → Deep (AtHead A B) (core p)

@@ -76,21 +76,12 @@ bound_stored (s ∷ signals) (c ∷ old) (d ∷ new) m n = ap (λ ss. record { n
 neg_moved : (g : ℕ → ℕ) (p : Core) → moved_core g (neg p) ≡ neg (moved_core g p)
 unfolding neg moved_core
 neg_moved g ctrue = refl
-neg_moved g (catom a) = refl
-neg_moved g (cnot p) = refl
-neg_moved g (cand p q) = refl
-neg_moved g (cuntil i p q) = refl
-neg_moved g (csince i p q) = refl
+neg_moved g _ = refl
 
 core_atom_moved : (g : ℕ → ℕ) (a : Atom) → moved_core g (core_atom a) ≡ core_atom (moved_atom g a)
 unfolding moved_core moved_atom
 core_atom_moved g (is_true c) = refl
-core_atom_moved g (equal a b) = refl
-core_atom_moved g (less a b) = refl
-core_atom_moved g (at_most a b) = refl
-core_atom_moved g (different a b) = refl
-core_atom_moved g (greater a b) = refl
-core_atom_moved g (at_least a b) = refl
+core_atom_moved g _ = refl
 
 -- the negation of what is moved
 neg_of : (g : ℕ → ℕ) (p q : Core) → moved_core g p ≡ q → moved_core g (neg p) ≡ neg q

@@ -45,11 +45,8 @@ input_plain [] t h = tt
 input_plain (x ∷ xs) t h = (h.0, input_plain xs t h.1)
 
 body_plain : (body : BodyShape) → IsPlainBody body → ArePlainSignals (body_signals body)
-body_plain (structure x fs) h = tt
 body_plain (input xs t) h = input_plain xs t h.0
-body_plain (define x e) h = tt
-body_plain (formula engine label e) h = tt
-body_plain (contract engine label e f) h = tt
+body_plain _ h = tt
 
 signals_plain : (items : List ItemShape) → ArePlainItems items → ArePlainSignals (signals_of items)
 signals_plain [] h = tt

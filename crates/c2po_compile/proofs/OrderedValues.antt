@@ -34,15 +34,11 @@ truth_ordered false = tt
 
 logic_ordered : (op : LogicOp) (p q : Formula) → IsOrdered p → IsOrdered q → IsOrdered (connected op p q)
 logic_ordered And p q g h = (g, h)
-logic_ordered Or p q g h = (g, h)
-logic_ordered Implies p q g h = (g, h)
-logic_ordered Iff p q g h = (g, h)
+logic_ordered _ p q g h = (g, h)
 
 window_ordered : (op : WindowOp) (a b : ℕ) (p : Formula) → IsOrdered p → IsOrdered (windowed op (interval a b) p)
 window_ordered F a b p h = (omega arith, h)
-window_ordered G a b p h = (omega arith, h)
-window_ordered O a b p h = (omega arith, h)
-window_ordered H a b p h = (omega arith, h)
+window_ordered _ a b p h = (omega arith, h)
 
 between_ordered : (op : BetweenOp) (a b : ℕ) (p q : Formula) → IsOrdered p → IsOrdered q → IsOrdered (ranged op (interval a b) p q)
 between_ordered U a b p q g h = (omega arith, (g, h))

@@ -122,10 +122,7 @@ module _ (program : Program) (kinds : List Bool) (columns : List ℕ) (fits : Ar
 
 -- the core form of an atom is as readable
 pub atom_turns : (program : Program) (B : Interval → Type 0) (a : Atom) → InAtom (IsReadable program) a → Deep (AtHead (InAtom (IsReadable program)) B) (core_atom a)
-atom_turns program B (is_true c) h = h
-atom_turns program B (equal a b) h = h
-atom_turns program B (less a b) h = h
-atom_turns program B (at_most a b) h = h
 atom_turns program B (different a b) h = (tt, (tt, h.1))
 atom_turns program B (greater a b) h = (tt, (h.1.1, h.1.0))
 atom_turns program B (at_least a b) h = (tt, (h.1.1, h.1.0))
+atom_turns program B _ h = h

@@ -33,9 +33,7 @@ MayRefuse (Some fault) = IsHeaderless fault
 
 token_headerless : (fault : LexFault) → IsHeaderless (token_refusal fault)
 token_headerless (lexed.Letter line) = tt
-token_headerless (lexed.LongWord line) = tt
-token_headerless (lexed.Number line) = tt
-token_headerless lexed.Memory = tt
+token_headerless _ = tt
 
 tree_headerless : (fault : ParseFault) → IsHeaderless (tree_refusal fault)
 tree_headerless (parsed.TooManyTokens line) = tt
@@ -44,17 +42,7 @@ tree_headerless parsed.Memory = tt
 
 check_headerless : (fault : TypeFault) → IsHeaderless (check_refusal fault)
 check_headerless (checked.Unknown line) = tt
-check_headerless (checked.Twice line) = tt
-check_headerless (checked.Kind line) = tt
-check_headerless (checked.Count line) = tt
-check_headerless (checked.Field line) = tt
-check_headerless (checked.Bounds line) = tt
-check_headerless (checked.Signals line) = tt
-check_headerless (checked.Wide line) = tt
-check_headerless (checked.Divisor line) = tt
-check_headerless (checked.Range line) = tt
-check_headerless (checked.Tense line) = tt
-check_headerless checked.Memory = tt
+check_headerless _ = tt
 
 refusal_headerless : {A E : Type 0} (refusal : E → CompileFault) (found : Result A E) → ((fault : E) → IsHeaderless (refusal fault)) → MayRefuse (refusal_in refusal found)
 refusal_headerless refusal (Ok value) each = tt

@@ -51,22 +51,11 @@ rule_more rule before x y ys here more =
 
 gives_whole : (es : List Expression) (a : Term) → is_whole (Some (bz_instruction es (whole a))) ≡ true
 gives_whole es (column c) = refl
-gives_whole es (constant n) = refl
-gives_whole es (negative a) = refl
-gives_whole es (plus a b) = refl
-gives_whole es (minus a b) = refl
-gives_whole es (times a b) = refl
-gives_whole es (quotient a b) = refl
-gives_whole es (remainder a b) = refl
+gives_whole es _ = refl
 
 gives_truth : (es : List Expression) (a : Atom) → is_truth (Some (bz_instruction es (truth a))) ≡ true
 gives_truth es (is_true c) = refl
-gives_truth es (equal a b) = refl
-gives_truth es (less a b) = refl
-gives_truth es (at_most a b) = refl
-gives_truth es (different a b) = refl
-gives_truth es (greater a b) = refl
-gives_truth es (at_least a b) = refl
+gives_truth es _ = refl
 
 -- the instructions of a program are those of listed expressions
 module _ (program : Program) (all : List Expression) (kept : program.bz ≡ map (bz_instruction all) all) where

@@ -44,9 +44,6 @@ AreOrdered o = All IsOrdered (formulas_of o)
 -- over columns its intervals run upward still
 over_ordered : (columns : List ℕ) (p : Formula) → IsOrdered p → IsOrdered (formula_over columns p)
 unfolding formula_over
-over_ordered columns truth h = tt
-over_ordered columns falsity h = tt
-over_ordered columns (atom a) h = tt
 over_ordered columns (negation p) h = over_ordered columns p h
 over_ordered columns (conjunction p q) h = (over_ordered columns p h.0, over_ordered columns q h.1)
 over_ordered columns (disjunction p q) h = (over_ordered columns p h.0, over_ordered columns q h.1)
@@ -59,6 +56,7 @@ over_ordered columns (release i p q) h = (h.0, (over_ordered columns p h.1.0, ov
 over_ordered columns (once i p) h = (h.0, over_ordered columns p h.1)
 over_ordered columns (historically i p) h = (h.0, over_ordered columns p h.1)
 over_ordered columns (since i p q) h = (h.0, (over_ordered columns p h.1.0, over_ordered columns q h.1.1))
+over_ordered columns _ h = tt
 
 output_ordered : (columns : List ℕ) (o : Output) → AreOrdered o → AreOrdered (output_over columns o)
 output_ordered columns (formula p) h = All-cons IsOrdered (formula_over columns p) [] (over_ordered columns p (All-head IsOrdered p [] h)) (All-nil IsOrdered)

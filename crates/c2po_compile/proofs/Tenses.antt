@@ -21,9 +21,6 @@ use Rattle.c2po_compile.specs.Images.{IsImageOf}
 
 future_over : (columns : List ℕ) (p : Formula) → IsFuture p → IsFuture (formula_over columns p)
 unfolding formula_over
-future_over columns truth h = tt
-future_over columns falsity h = tt
-future_over columns (atom a) h = tt
 future_over columns (negation p) h = future_over columns p h
 future_over columns (conjunction p q) h = (future_over columns p h.0, future_over columns q h.1)
 future_over columns (disjunction p q) h = (future_over columns p h.0, future_over columns q h.1)
@@ -36,6 +33,7 @@ future_over columns (release i p q) h = (future_over columns p h.0, future_over 
 future_over columns (once i p) h = absurd h
 future_over columns (historically i p) h = absurd h
 future_over columns (since i p q) h = absurd h
+future_over columns _ h = tt
 
 past_over : (columns : List ℕ) (p : Formula) → IsPast p → IsPast (formula_over columns p)
 unfolding formula_over
@@ -50,10 +48,7 @@ past_over columns (equivalence p q) h = (past_over columns p h.0, past_over colu
 past_over columns (once i p) h = past_over columns p h
 past_over columns (historically i p) h = past_over columns p h
 past_over columns (since i p q) h = (past_over columns p h.0, past_over columns q h.1)
-past_over columns (finally i p) h = absurd h
-past_over columns (globally i p) h = absurd h
-past_over columns (until i p q) h = absurd h
-past_over columns (release i p q) h = absurd h
+past_over columns _ h = absurd h
 
 tense_over : (columns : List ℕ) (e : Engine) (p : Formula) → IsOfTense e p → IsOfTense e (formula_over columns p)
 tense_over columns Ft p h = future_over columns p h

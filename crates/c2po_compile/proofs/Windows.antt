@@ -36,12 +36,6 @@ windowed_at (t ∷ ts) (suc n) h = windowed_at ts n h.1
 tree_windowed : (signals : ℕ) (ts : List Tree) (node : Plain) → AreWindowed ts → IsFormed signals ts node → TreeWindowed (tree_of ts node)
 tree_windowed signals ts (Truth true) h f = tt
 tree_windowed signals ts (Truth false) h f = tt
-tree_windowed signals ts (Flag s) h f = tt
-tree_windowed signals ts (Number n) h f = tt
-tree_windowed signals ts (Signal s) h f = tt
-tree_windowed signals ts (Minus a) h f = tt
-tree_windowed signals ts (Arith op a b) h f = tt
-tree_windowed signals ts (Compare op a b) h f = tt
 tree_windowed signals ts (Not a) h f = windowed_at ts a h
 tree_windowed signals ts (Logic logic.And a b) h f = (windowed_at ts a h, windowed_at ts b h)
 tree_windowed signals ts (Logic logic.Or a b) h f = (windowed_at ts a h, windowed_at ts b h)
@@ -54,6 +48,7 @@ tree_windowed signals ts (Window window.H i a) h f = (f.0, windowed_at ts a h)
 tree_windowed signals ts (Between between.U i a b) h f = (f.0, windowed_at ts a h, windowed_at ts b h)
 tree_windowed signals ts (Between between.R i a b) h f = (f.0, windowed_at ts a h, windowed_at ts b h)
 tree_windowed signals ts (Between between.S i a b) h f = (f.0, windowed_at ts a h, windowed_at ts b h)
+tree_windowed signals ts _ h f = tt
 
 first_windowed : (signals : ℕ) (nodes : List Plain) (n : ℕ) → AreSound signals nodes → n ≤ length nodes → AreWindowed (trees (take n nodes))
 unfolding AreWindowed trees

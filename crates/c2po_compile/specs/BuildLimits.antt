@@ -1,10 +1,12 @@
--- The limits that a specification keeps, and the first one that it exceeds.
+-- The limits that a specification keeps, and the first that it exceeds.
 
 use Rattle.std.specs.Prelude.{ℕ, ◌<◌, ◌≤◌, List, All, Any, ⊤}
 use Rattle.mltl_base.specs.declared.limits.TheConstants.{MAX_DELAY, MAX_SLOTS}
 use Rattle.mltl_base.specs.declared.program.Graph.{Graph}
 use Rattle.mltl_base.specs.Queues.{worst_delays, slot_count}
 use Rattle.mltl_base.specs.Subformulas.{Asked, ft_list, pt_list, out_list}
+use Rattle.core_graph.specs.declared.graph.GraphFault.{GraphFault}
+use Rattle.core_graph.specs.declared.graph.GraphFault.TheVariants as core
 use Rattle.core_graph.specs.Limits.{AreFew, AreMany}
 use Rattle.c2po_compile.specs.declared.build_fault.BuildFault.{BuildFault}
 use Rattle.c2po_compile.specs.declared.build_fault.BuildFault.TheVariants.{TooManyNodes, TooLate, TooManySlots, Memory}
@@ -30,6 +32,11 @@ pub record IsWithinLimits (outs : List Asked) : Type 0 where
   pub few : AreFew outs
   pub in_time : AreInTime outs
   pub fits : slots_needed outs ≤ MAX_SLOTS
+
+-- the limit that no graph keeps
+abbrev pub graph_limit : GraphFault → BuildFault
+graph_limit core.TooManyNodes = TooManyNodes
+graph_limit core.Memory = Memory
 
 -- the limit that a refusal names is exceeded, and those before it are kept: nodes, then delays, then slots
 abbrev pub IsReason : List Asked → BuildFault → Type 0

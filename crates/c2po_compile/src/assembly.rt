@@ -1,11 +1,8 @@
 //! The back of the compiler: graph, sizes, stored signals, and the verifier.
 
-ghost use Rattle.std.specs.Prelude.{◌≡◌, ◌≤◌, All, IfErr, IfOk, OnOk, length};
+ghost use Rattle.std.specs.Prelude.{◌≡◌, ◌≤◌, All, IfErr, IfOk, OnOk};
 ghost use Rattle.mltl_base.specs.Queues.{slot_count, worst_delays};
-ghost use Rattle.mltl_base.specs.Subformulas.{IsGraphOf, IsTensed};
-ghost use Rattle.c2po_nodes.specs.Nodes.{AreSound, trees};
-ghost use Rattle.c2po_nodes.specs.Outputs.{NamesFormulas, asked, asked_in};
-ghost use Rattle.core_graph.specs.Limits.{AreFew};
+ghost use Rattle.c2po_nodes.specs.Outputs.{asked, asked_in};
 ghost use Rattle.delay_sizes.specs.Sizing.{AreSizesOf, IsSizable};
 ghost use Rattle.obs_verify.specs.Layout.{HasLayout};
 ghost use Rattle.obs_verify.specs.WellFormed.{IsWellFormed};
@@ -16,7 +13,7 @@ ghost use Rattle.c2po_compile.specs.BuildLimits.{IsReason, IsSizeReason, IsWithi
 use crate::build_fault::BuildFault;
 use crate::stored::store_signals;
 use c2po_nodes::Expanded;
-use core_graph::{GraphFault, to_core};
+use core_graph::to_core;
 use delay_sizes::{DelayFault, SizeFault, delays, queue_sizes};
 use mltl_base::limits::{MAX_DELAY, MAX_SLOTS};
 use mltl_base::{Columns, Graph, List, Program, Signal, Sizes};
@@ -39,7 +36,7 @@ pub fn build(
     ensures within { OnOk result (IsWithinLimits (asked_in columns.now.of_signal spec.now)) }
     ensures refused { IfErr result (IsReason (asked_in columns.now.of_signal spec.now)) }
 {
-    let graph = graph_of(alloc, spec, columns)?;
+    let graph = to_core(alloc, spec, columns)?;
     let sizes = sizes_of(alloc, &graph)?;
     let stored = store_signals(alloc, signals.as_slice(), columns.of_signal.as_slice())?;
     let Graph { bz, ft, pt, outs } = graph;
@@ -54,23 +51,6 @@ pub fn build(
         signals: stored,
     };
     verified(alloc, program)
-}
-
-/// The graph, or that it has too many instructions.
-fn graph_of(alloc: Global, spec: &Expanded, columns: &Columns) -> Result<Graph, BuildFault>
-    requires nodes { AreSound (length columns.now.of_signal) spec.now.nodes }
-    requires outs { All (NamesFormulas (trees spec.now.nodes)) spec.now.outs }
-    requires tensed { All IsTensed (asked spec.now) }
-    ensures graph { IfOk result
-        (λ graph. IsGraphOf (asked_in columns.now.of_signal spec.now) graph) }
-    ensures few { OnOk result (AreFew (asked_in columns.now.of_signal spec.now)) }
-    ensures refused { IfErr result (IsReason (asked_in columns.now.of_signal spec.now)) }
-{
-    match to_core(alloc, spec, columns) {
-        Ok(graph) => Ok(graph),
-        Err(GraphFault::TooManyNodes) => Err(BuildFault::TooManyNodes),
-        Err(GraphFault::Memory) => Err(BuildFault::Memory),
-    }
 }
 
 /// The sizes of a graph, or that it is too late or needs too many slots.

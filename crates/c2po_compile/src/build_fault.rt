@@ -2,7 +2,8 @@
 
 ghost use Rattle.std.specs.Prelude.{◌≡◌};
 
-use std::alloc::{AllocError, AllocFailed};
+use core_graph::GraphFault;
+use std::alloc::AllocError;
 
 /// The first limit that a specification exceeds: instructions, then delays, then slots.
 #[derive(Clone, Copy, PartialEq, Eq, Debug)]
@@ -27,12 +28,15 @@ impl From<AllocError> for BuildFault {
     }
 }
 
-impl<T: Drop> From<AllocFailed<T>> for BuildFault {
-    ghost use Rattle.c2po_compile.specs.declared.build_fault.BuildFault.TheVariants.{Memory};
+impl From<GraphFault> for BuildFault {
+    ghost use Rattle.c2po_compile.specs.BuildLimits.{graph_limit};
 
-    ghost from_gives = { λ _ fault. fault ≡ Memory };
+    ghost from_gives = { λ fault limit. limit ≡ graph_limit fault };
 
-    fn from(_refused: AllocFailed<T>) -> BuildFault {
-        BuildFault::Memory
+    fn from(fault: GraphFault) -> BuildFault {
+        match fault {
+            GraphFault::TooManyNodes => BuildFault::TooManyNodes,
+            GraphFault::Memory => BuildFault::Memory,
+        }
     }
 }

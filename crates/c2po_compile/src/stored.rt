@@ -4,14 +4,14 @@ ghost use Rattle.std.specs.Prelude.{◌≡◌, length, IfOk};
 ghost use Rattle.c2po_compile.specs.Images.{stored_signals};
 
 use mltl_base::{List, Signal, StoredSignal};
-use std::alloc::{AllocFailed, Global};
+use std::alloc::{AllocError, Global};
 
 /// Each signal with its column, in order of declaration.
 pub fn store_signals(
     alloc: Global,
     signals: &[Signal],
     columns: &[u32],
-) -> Result<List<StoredSignal>, AllocFailed<StoredSignal>>
+) -> Result<List<StoredSignal>, AllocError>
     requires { length columns.now ≡ length signals.now }
     ensures { IfOk result (λ list. list ≡ stored_signals signals.now columns.now) }
 {

@@ -73,12 +73,9 @@ plain_number true value fault = tt
 plain_number false value fault = tt
 
 what_plain : (line : ℕ) (f : Front) (bytes : List ℕ) → IsWord f bytes → PlainReading (what_of line f bytes)
-what_plain line front.Blank bytes word = tt
-what_plain line (front.Comment n) bytes word = tt
 what_plain line (front.Word n) bytes word = plain_word (nat_lt 64 (length bytes)) (keyword_of bytes) line bytes _ word.1
 what_plain line (front.Digits n) bytes word = plain_number (nat_lt 9223372036854775807 (digits_value 10 bytes)) (digits_value 10 bytes) _
-what_plain line (front.Sign s) bytes word = tt
-what_plain line front.Stray bytes word = tt
+what_plain line _ bytes word = tt
 
 abbrev pub PlainTokens : Result (List Token) LexFault → Type 0
 PlainTokens r = IfOk r (All (λ t. HasPlainLetters t.what))

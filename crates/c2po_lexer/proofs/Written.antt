@@ -71,12 +71,10 @@ number_written true bytes fault = tt
 number_written false bytes fault = refl
 
 what_written : (line : ℕ) (f : Front) (bytes : List ℕ) → IsSign f bytes → ReadingOf bytes (what_of line f bytes)
-what_written line front.Blank bytes sign = tt
-what_written line (front.Comment n) bytes sign = tt
 what_written line (front.Word n) bytes sign = word_written (nat_lt 64 (length bytes)) (keyword_of bytes) bytes _ refl
 what_written line (front.Digits n) bytes sign = number_written (nat_lt 9223372036854775807 (digits_value 10 bytes)) bytes _
 what_written line (front.Sign s) bytes sign = sign
-what_written line front.Stray bytes sign = tt
+what_written line _ bytes sign = tt
 
 abbrev pub WrittenTokens : List ℕ → Result (List Token) LexFault → Type 0
 WrittenTokens text r = IfOk r (All (λ t. IsWrittenAs t.what (token_bytes text t)))

@@ -26,9 +26,7 @@ use Rattle.c2po_parse.proofs.Agree.{tree-derives}
 
 type-some : (ts : List Token) (k : TypeShape) → SpellsType ts k → 1 ≤ length ts
 type-some _ _ (name_type t x is) = omega arith
-type-some _ _ (bool_type t is) = omega arith
-type-some _ _ (int_type t is) = omega arith
-type-some _ _ (set_type t less ts greater k is is_less inner is_greater) = omega arith
+type-some _ _ _ = omega arith
 
 set-reads : (n : ℕ) (t less greater : Token) (vs us rest : List Token) (k : TypeShape) → t.what ≡ what.Reserved keyword.Set → IsSign sign.Less less →
     type_within n us ≡ Some (k, greater ∷ rest) → IsSign sign.Greater greater → vs ≡ us → type_within (suc n) (t ∷ less ∷ vs) ≡ Some (set_of k, rest)

@@ -50,11 +50,8 @@ head_level (what.Reserved keyword.H) = 6
 head_level _ = 12
 
 start_level : Start → ℕ
-start_level (Leaf line a) = 12
 start_level (Before p) = prefix_level p
-start_level Round = 12
-start_level (Open b) = 12
-start_level (Bind line q x) = 12
+start_level _ = 12
 
 starts-at : (n : ℕ) (s r : Start) (ts rest : List Token) → n ≡ start_level s → ◌≡◌ {A = Option (Start × List Token)} (Some (s, ts)) (Some (r, rest)) →
     n ≡ start_level r
@@ -230,9 +227,7 @@ some-passes-on read k c e (Before p) rest b is h =
     if-false (nat_eq (prefix_level p) k) (read k rest >>= λ x. Some (prefixed p x)) (read (suc k) c) (Some e)
     (not-equal (prefix_level p) k (λ same. omega arith)) h
 some-passes-on read k c e (Leaf line a) rest b is h = h
-some-passes-on read k c e Round rest b is h = h
-some-passes-on read k c e (Open o) rest b is h = h
-some-passes-on read k c e (Bind line q x) rest b is h = h
+some-passes-on read k c e _ rest b is h = h
 
 -- no prefix of this level is taken off
 passes-on : (read : ReadsLevel) (k : ℕ) (c : List Token) (e : Shape) (v : Option (Start × List Token)) → Begins (suc k) c → start_at c ≡ v →

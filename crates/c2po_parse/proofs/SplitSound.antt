@@ -109,9 +109,7 @@ some-prefix-sound read k ts (Before p) rest e ih low high is h =
       | inr c ↦ next-sound read k ts e ih low high c.1
     ]
 some-prefix-sound read k ts (Leaf line a) rest e ih low high is h = next-sound read k ts e ih low high h
-some-prefix-sound read k ts Round rest e ih low high is h = next-sound read k ts e ih low high h
-some-prefix-sound read k ts (Open b) rest e ih low high is h = next-sound read k ts e ih low high h
-some-prefix-sound read k ts (Bind line q x) rest e ih low high is h = next-sound read k ts e ih low high h
+some-prefix-sound read k ts _ rest e ih low high is h = next-sound read k ts e ih low high h
 
 prefixes-sound : (read : ReadsLevel) (k : ℕ) (ts : List Token) (v : Option (Start × List Token)) (e : Shape) → Sound read → 1 ≤ k → k < 12 →
     start_at ts ≡ v → at_prefixes read k ts v ≡ Some e → Derives k ts e

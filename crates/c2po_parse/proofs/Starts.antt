@@ -34,18 +34,13 @@ use Rattle.mltl_base.specs.declared.operators.CountOp.TheVariants as count_op
 -- whether a beginning is a whole operand
 abbrev pub is_leaf : Start → Bool
 is_leaf (Leaf line a) = true
-is_leaf (Before p) = false
-is_leaf Round = false
-is_leaf (Open b) = false
-is_leaf (Bind line q x) = false
+is_leaf _ = false
 
 -- how many brackets it opens
 abbrev pub opened : Start → ℕ
 opened (Leaf line a) = 0
 opened (Before p) = 0
-opened Round = 1
-opened (Open b) = 1
-opened (Bind line q x) = 1
+opened _ = 1
 
 -- the names in a beginning are plain
 abbrev pub AtomNames : Atom → Type 0

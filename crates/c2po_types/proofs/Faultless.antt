@@ -16,7 +16,8 @@ use Rattle.c2po_types.specs.Checking.{Checked, in_turn}
 use Rattle.c2po_types.specs.Items.{Labels, with_struct, with_input, define_kind, with_value, with_label, formula_kind, contract_kind}
 use Rattle.c2po_nodes.specs.Faults.{HasRanges, formula_fault}
 use Rattle.c2po_unfold.specs.Faults.{value_fault}
-use Rattle.c2po_unfold.specs.Values.{weight, formula_of}
+use Rattle.c2po_unfold.specs.Values.{formula_of}
+use Rattle.c2po_unfold.specs.Weights.{weight}
 use Rattle.c2po_unfold.specs.Environment.{Env, declare, fields, value, value_of}
 use Rattle.c2po_types.specs.FirstFault.{first_fault}
 use Rattle.c2po_types.specs.Stepwise.{State, start, when_ranged, one_tense, with_out, body_step, item_step, checked}

@@ -17,7 +17,8 @@ use Rattle.c2po_ast.specs.Shape.{Shape}
 use Rattle.c2po_ast.specs.ItemShape.{TypeShape, FieldShape, BodyShape, ItemShape, structure, input, define, formula, contract}
 use Rattle.c2po_nodes.specs.Faults.{formula_fault, or_later}
 use Rattle.c2po_unfold.specs.Environment.{Env, declare, fields, value, value_of}
-use Rattle.c2po_unfold.specs.Values.{weight, formula_of}
+use Rattle.c2po_unfold.specs.Values.{formula_of}
+use Rattle.c2po_unfold.specs.Weights.{weight}
 use Rattle.c2po_unfold.specs.Faults.{value_fault}
 use Rattle.c2po_types.specs.declared.kind.Kind.{Kind}
 use Rattle.c2po_types.specs.declared.kind.Meaning.{Meaning}
@@ -209,7 +210,7 @@ only (Some fault) = refl
 -- ---- outputs
 
 -- what is known of its parts
-abbrev known : Declarations → Labels → Env → ℕ → State
+abbrev pub known : Declarations → Labels → Env → ℕ → State
 known d labels env total = record { declared = d; labels = labels; values = env; total = total }
 
 same_known : (d e : Declarations) (l m : Labels) (v w : Env) (t u : ℕ) → d ≡ e → l ≡ m → v ≡ w → t ≡ u → known d l v t ≡ known e m w u

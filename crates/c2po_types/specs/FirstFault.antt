@@ -19,7 +19,8 @@ use Rattle.c2po_ast.specs.ItemShape.{contract}
 use Rattle.c2po_nodes.specs.Faults.{formula_fault}
 use Rattle.c2po_nodes.specs.Tenses.{has_past, has_future}
 use Rattle.c2po_unfold.specs.Environment.{value_of}
-use Rattle.c2po_unfold.specs.Values.{weight, formula_of}
+use Rattle.c2po_unfold.specs.Values.{formula_of}
+use Rattle.c2po_unfold.specs.Weights.{weight}
 use Rattle.c2po_unfold.specs.Faults.{value_fault}
 use Rattle.c2po_types.specs.declared.declarations.Declarations.{Declarations}
 use Rattle.c2po_types.specs.declared.fault.TypeFault.{TypeFault}

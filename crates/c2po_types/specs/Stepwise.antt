@@ -15,7 +15,8 @@ use Rattle.c2po_types.specs.Items.{Labels, nothing, with_struct, with_input, def
 use Rattle.c2po_types.specs.Items.{formula_kind, contract_kind}
 use Rattle.c2po_nodes.specs.Faults.{formula_fault, or_later}
 use Rattle.c2po_unfold.specs.Environment.{Env, no_names, declare, fields, value, value_of}
-use Rattle.c2po_unfold.specs.Values.{Value, weight, formula_of}
+use Rattle.c2po_unfold.specs.Values.{Value, formula_of}
+use Rattle.c2po_unfold.specs.Weights.{weight}
 use Rattle.c2po_unfold.specs.Faults.{value_fault}
 use Rattle.c2po_types.specs.Outputs.{with_signals}
 use Rattle.c2po_types.specs.FirstFault.{range_fault, is_mixed}

@@ -70,6 +70,14 @@ fn add_signals(
     Ok(())
 }
 
+/// What an output begins with.
+#[derive(Clone, Copy)]
+struct Head<'a> {
+    line: u32,
+    engine: Engine,
+    label: &'a Option<Name>,
+}
+
 impl Progress {
     /// Checks a struct.
     fn step_struct(
@@ -164,16 +172,10 @@ impl Progress {
     }
 
     /// Counts a formula whose names and kinds are right as an output.
-    fn count_formula(
-        &mut self,
-        alloc: Global,
-        line: u32,
-        engine: Engine,
-        expr: &Expr,
-    ) -> Result<(), TypeFault>
+    fn count_formula(&mut self, alloc: Global, head: Head<'_>, expr: &Expr) -> Result<(), TypeFault>
         requires { self.old.total ≤ MAX_WEIGHT }
         ensures reached { (env : Env) → StandsFor self.old.values env
-            → Reaches result self.new (one_out line engine self.old.labels
+            → Reaches result self.new (one_out head.entry.line head.entry.engine self.old.labels
             (value_of (shape expr.now) env) (state_of self.old env)) }
         ensures light { OnOk result (self.new.total ≤ MAX_WEIGHT) }
     {
@@ -181,43 +183,36 @@ impl Progress {
         let found = self
             .values
             .weigh(alloc, expr, room)
-            .map_err(|why| too_wide(line, why))?;
-        let mixed = is_mixed(engine, found.tenses);
-        self.count_out(line, found.weight, found.fault, mixed)
+            .map_err(|why| too_wide(head.line, why))?;
+        let mixed = is_mixed(head.engine, found.tenses);
+        self.count_out(head.line, found.weight, found.fault, mixed)
     }
 
     /// Checks an output with a formula.
-    fn step_formula(
-        &mut self,
-        alloc: Global,
-        line: u32,
-        engine: Engine,
-        label: &Option<Name>,
-        expr: &Expr,
-    ) -> Result<(), TypeFault>
+    fn step_formula(&mut self, alloc: Global, head: Head<'_>, expr: &Expr) -> Result<(), TypeFault>
         requires { self.old.total ≤ MAX_WEIGHT }
         ensures reached { (env : Env) → StandsFor self.old.values env
             → Reaches result self.new
-            (formula_step line engine label.now (shape expr.now) (state_of self.old env)) }
+            (formula_step head.entry.line head.entry.engine head.entry.label.now (shape expr.now)
+            (state_of self.old env)) }
         ensures light { OnOk result (self.new.total ≤ MAX_WEIGHT) }
     {
-        declare_label(alloc, &mut self.labels, line, label)?;
-        check_formula(alloc, &self.declared, line, expr)?;
-        self.count_formula(alloc, line, engine, expr)
+        declare_label(alloc, &mut self.labels, head.line, head.label)?;
+        check_formula(alloc, &self.declared, head.line, expr)?;
+        self.count_formula(alloc, head, expr)
     }
 
     /// Counts a contract as an output: its left formula is weighed, and its right one is weighed here.
     fn count_right(
         &mut self,
         alloc: Global,
-        line: u32,
-        engine: Engine,
+        head: Head<'_>,
         left: Weighed,
         right: &Expr,
     ) -> Result<(), TypeFault>
         requires { self.old.total + left.weight ≤ MAX_WEIGHT }
         ensures reached { (env : Env) (v : Value) → StandsFor self.old.values env → Weighs left v
-            → Reaches result self.new (two_out line engine self.old.labels
+            → Reaches result self.new (two_out head.entry.line head.entry.engine self.old.labels
             v (value_of (shape right.now) env) (state_of self.old env)) }
         ensures light { OnOk result (self.new.total ≤ MAX_WEIGHT) }
     {
@@ -225,24 +220,23 @@ impl Progress {
         let found = self
             .values
             .weigh(alloc, right, room)
-            .map_err(|why| too_wide(line, why))?;
+            .map_err(|why| too_wide(head.line, why))?;
         let why = first_fault(left.fault, found.fault);
-        let mixed = is_mixed(engine, left.tenses) || is_mixed(engine, found.tenses);
-        self.count_out(line, left.weight + found.weight, why, mixed)
+        let mixed = is_mixed(head.engine, left.tenses) || is_mixed(head.engine, found.tenses);
+        self.count_out(head.line, left.weight + found.weight, why, mixed)
     }
 
     /// Counts a contract whose names and kinds are right as an output.
     fn count_contract(
         &mut self,
         alloc: Global,
-        line: u32,
-        engine: Engine,
+        head: Head<'_>,
         left: &Expr,
         right: &Expr,
     ) -> Result<(), TypeFault>
         requires { self.old.total ≤ MAX_WEIGHT }
         ensures reached { (env : Env) → StandsFor self.old.values env
-            → Reaches result self.new (two_out line engine self.old.labels
+            → Reaches result self.new (two_out head.entry.line head.entry.engine self.old.labels
             (value_of (shape left.now) env) (value_of (shape right.now) env)
             (state_of self.old env)) }
         ensures light { OnOk result (self.new.total ≤ MAX_WEIGHT) }
@@ -251,29 +245,28 @@ impl Progress {
         let left = self
             .values
             .weigh(alloc, left, room)
-            .map_err(|why| too_wide(line, why))?;
-        self.count_right(alloc, line, engine, left, right)
+            .map_err(|why| too_wide(head.line, why))?;
+        self.count_right(alloc, head, left, right)
     }
 
     /// Checks an output with a contract.
     fn step_contract(
         &mut self,
         alloc: Global,
-        line: u32,
-        engine: Engine,
-        label: &Option<Name>,
+        head: Head<'_>,
         left: &Expr,
         right: &Expr,
     ) -> Result<(), TypeFault>
         requires { self.old.total ≤ MAX_WEIGHT }
         ensures reached { (env : Env) → StandsFor self.old.values env
-            → Reaches result self.new (contract_step line engine label.now
+            → Reaches result self.new
+            (contract_step head.entry.line head.entry.engine head.entry.label.now
             (shape left.now) (shape right.now) (state_of self.old env)) }
         ensures light { OnOk result (self.new.total ≤ MAX_WEIGHT) }
     {
-        declare_label(alloc, &mut self.labels, line, label)?;
-        check_contract(alloc, &self.declared, line, left, right)?;
-        self.count_contract(alloc, line, engine, left, right)
+        declare_label(alloc, &mut self.labels, head.line, head.label)?;
+        check_contract(alloc, &self.declared, head.line, left, right)?;
+        self.count_contract(alloc, head, left, right)
     }
 
     /// Checks one more item.
@@ -289,10 +282,29 @@ impl Progress {
             Body::Input(names, tree) => self.step_input(alloc, line, names, tree),
             Body::Define(name, expr) => self.step_define(alloc, line, name, expr),
             Body::Formula(engine, label, expr) => {
-                self.step_formula(alloc, line, *engine, label, expr)
+                let engine = *engine;
+                self.step_formula(
+                    alloc,
+                    Head {
+                        line,
+                        engine,
+                        label,
+                    },
+                    expr,
+                )
             }
             Body::Contract(engine, label, left, right) => {
-                self.step_contract(alloc, line, *engine, label, left, right)
+                let engine = *engine;
+                self.step_contract(
+                    alloc,
+                    Head {
+                        line,
+                        engine,
+                        label,
+                    },
+                    left,
+                    right,
+                )
             }
         }
     }

@@ -36,10 +36,10 @@ later_then old mid new g h = record {
 
 mutual
   pub holds_kept : (v : Value) (old new : Unfolding) (s : Stored) → Keeps old new → Holds old s v → Holds new s v
-  holds_kept (leaf t w) old new s g h = (h.0, (h.1.0, h.1.1, h.1.2, g.facts h.1.0 h.1.1 h.1.3, h.1.4, h.1.5))
-  holds_kept (structure x vs w) old new s g h =
+  holds_kept (leaf l) old new s g h = (h.0, (h.1.0, h.1.1, h.1.2, g.facts h.1.0 h.1.1 h.1.3, h.1.4, h.1.5))
+  holds_kept (structure x vs) old new s g h =
       (h.0, (h.1.0, h.1.1, h.1.2, g.parts h.1.0 (record { whole = whole.Struct x; members = h.1.1 }) h.1.3, hold_all_kept vs old new h.1.1 g h.1.4, h.1.5))
-  holds_kept (set vs w) old new s g h =
+  holds_kept (set vs) old new s g h =
       (h.0, (h.1.0, h.1.1, h.1.2, g.parts h.1.0 (record { whole = whole.Set; members = h.1.1 }) h.1.3, hold_all_kept vs old new h.1.1 g h.1.4, h.1.5))
 
   pub hold_all_kept : (vs : Values) (old new : Unfolding) (ss : List Stored) → Keeps old new → HoldAll old ss vs → HoldAll new ss vs

@@ -1,4 +1,5 @@
 pub mod Declaring
+pub mod Finding
 pub mod Gathering
 pub mod Holding
 pub mod Knowing

@@ -1,6 +1,6 @@
 -- What the loops of unfolding keep.
 
-use Rattle.std.proofs.Common.{◌≡◌, ℕ, false, ◌+◌, ◌-◌, ◌<◌, ◌≤◌, Option, Some, None, List, [], ◌∷◌, ◌++◌, map, fold, take, length, get_or, slice_get, sum_by, option_map, refl, sym, subst, ap, ◌∙◌, arith}
+use Rattle.std.proofs.Common.{◌≡◌, ℕ, false, ◌+◌, ◌-◌, ◌<◌, ◌≤◌, Option, Some, None, List, [], ◌∷◌, ◌++◌, map, take, length, get_or, slice_get, sum_by, option_map, refl, sym, subst, ap, ◌∙◌, arith}
 use Rattle.std.proofs.lemmas.List.{take_more, take-map, map-append, length-map, length-take-le}
 use Rattle.std.proofs.lemmas.List.Sums.{fold_push, sum_by_push, sum_by-cons, sum_by_more_le}
 use Rattle.std.proofs.lemmas.Option.{slice_get_within, get_or_from_slice_get, slice_get-get_or, slice_get-map}
@@ -10,17 +10,17 @@ use Rattle.mltl_base.specs.Formula.{Formula, falsity, disjunction}
 use Rattle.count_sets.specs.Counting.{counting}
 use Rattle.c2po_unfold.specs.declared.fact.Fact.{Fact}
 use Rattle.c2po_unfold.specs.Facts.{Tells}
-use Rattle.c2po_nodes.specs.Nodes.{Tree, formula, formula_in}
+use Rattle.c2po_nodes.specs.Nodes.{Tree, formula, formula_in, connected}
 use Rattle.c2po_ast.specs.declared.tree.Expr.{Expr}
 use Rattle.c2po_ast.specs.Shape.{shape, shapes}
 use Rattle.c2po_unfold.specs.declared.values.Stored.{Stored}
 use Rattle.c2po_unfold.specs.declared.scope.Scope.{Scope}
 use Rattle.c2po_unfold.specs.declared.scope.Head.{Head}
 use Rattle.c2po_unfold.specs.declared.operators.Bodies.{Bodies}
-use Rattle.c2po_unfold.specs.declared.operators.BinaryOp.{BinaryOp}
 use Rattle.c2po_unfold.specs.declared.operators.BinaryOp.TheVariants as binary
 use Rattle.c2po_unfold.specs.declared.unfolding.Unfolding.{Unfolding}
-use Rattle.c2po_unfold.specs.Values.{Value, leaf, list_of, weight, formula_of, members, connected_value, connected_all, counted, counted_formula, counted_some, counting_weight, tree_in, truth_value}
+use Rattle.c2po_unfold.specs.Values.{Value, Values, none, more, list_of, values_from, formula_of, formulas_in, members, joined_formula, connected_all, counted, counted_formula, tree_in, truth_value}
+use Rattle.c2po_unfold.specs.Weights.{weight, parts_weight, counting_weight}
 use Rattle.c2po_unfold.specs.Environment.{Env, bind, value_of, values_of}
 use Rattle.c2po_unfold.specs.Holding.{Holds, HoldAll, Fits, IsLater}
 use Rattle.c2po_unfold.specs.Heads.{Heads}
@@ -38,17 +38,15 @@ take_next xs i x h =
     take_more xs i x (slice_get_within xs i x h)
     ∙ ap (λ y. take i xs ++ y ∷ []) (get_or_from_slice_get xs i x x h)
 
--- the weight of parts
-pub parts_weight : List Expr → Env → ℕ
-parts_weight es env = sum_by weight (list_of (values_of (shapes es) env))
+-- parts weigh what they weigh together
+pub parts_sum : (vs : Values) → parts_weight vs ≡ sum_by weight (list_of vs)
+parts_sum none = refl
+parts_sum (more v vs) = ap (λ n. weight v + n) (parts_sum vs) ∙ sym (sum_by-cons weight v (list_of vs))
 
 pub weight_push : (es : List Expr) (e : Expr) (env : Env) →
-    sum_by weight (list_of (values_of (shapes (es ++ e ∷ [])) env)) ≡ sum_by weight (list_of (values_of (shapes es) env)) + weight (value_of (shape e) env)
-weight_push es e env =
-    let f = λ (x : Expr). value_of (shape x) env in
-    ap (sum_by weight) (list_values (es ++ e ∷ []) env ∙ map-append f es (e ∷ []))
-    ∙ (sum_by_push weight (map f es) (f e)
-    ∙ ap (λ (xs : List Value). sum_by weight xs + weight (value_of (shape e) env)) (sym (list_values es env)))
+    parts_weight (values_of (shapes (es ++ e ∷ [])) env) ≡ parts_weight (values_of (shapes es) env) + weight (value_of (shape e) env)
+weight_push [] e env = omega arith
+weight_push (d ∷ es) e env = omega (arith, weight_push es e env)
 
 -- the first of a list and one more weigh no more than all
 pub sum_within : (vs : List Value) (i : ℕ) (v : Value) → slice_get vs i ≡ Some v → sum_by weight (take i vs) + weight v ≤ sum_by weight vs
@@ -57,13 +55,18 @@ sum_within vs i v h =
     (sum_by_more_le weight vs i v (slice_get_within vs i v h))
 
 pub weight_within : (es : List Expr) (i : ℕ) (e : Expr) (env : Env) → slice_get es i ≡ Some e →
-    sum_by weight (list_of (values_of (shapes (take i es)) env)) + weight (value_of (shape e) env) ≤ sum_by weight (list_of (values_of (shapes es) env))
+    parts_weight (values_of (shapes (take i es)) env) + weight (value_of (shape e) env) ≤ parts_weight (values_of (shapes es) env)
 weight_within es i e env h =
     let f = λ (x : Expr). value_of (shape x) env in
     let same : list_of (values_of (shapes (take i es)) env) ≡ take i (list_of (values_of (shapes es) env)) =
     list_values (take i es) env ∙ (sym (take-map f i es) ∙ ap (take i) (sym (list_values es env))) in
-    subst (λ xs. sum_by weight xs + weight (value_of (shape e) env) ≤ sum_by weight (list_of (values_of (shapes es) env))) (sym same)
-    (sum_within (list_of (values_of (shapes es) env)) i (value_of (shape e) env) (value_at es env i e h))
+    omega (
+      arith,
+      parts_sum (values_of (shapes (take i es)) env),
+      parts_sum (values_of (shapes es) env),
+      ap (sum_by weight) same,
+      sum_within (list_of (values_of (shapes es) env)) i (value_of (shape e) env) (value_at es env i e h),
+    )
 
 hold_push : (es : List Expr) (u : Unfolding) (ss : List Stored) (s : Stored) (e : Expr) (env : Env) →
     HoldAll u ss (values_of (shapes es) env) → Holds u s (value_of (shape e) env) → HoldAll u (ss ++ s ∷ []) (values_of (shapes (es ++ e ∷ [])) env)
@@ -76,7 +79,7 @@ pub record BuiltSoFar (old now : Unfolding) (scope : Scope) (es : List Expr) (do
   pub later : IsLater old now
   pub inside : left < room
   pub holds : (env : Env) → Fits old scope env → HoldAll now done (values_of (shapes es) env)
-  pub weight : (env : Env) → Fits old scope env → room ≡ left + (1 + sum_by weight (list_of (values_of (shapes es) env)))
+  pub weight : (env : Env) → Fits old scope env → room ≡ left + (1 + parts_weight (values_of (shapes es) env))
 
 pub built_start : (u : Unfolding) (scope : Scope) (room left : ℕ) → left + 1 ≡ room → BuiltSoFar u u scope [] [] room left
 built_start u scope room left e = record {
@@ -99,22 +102,32 @@ built_more old now new scope es i e done s room left b at next holds light =
           omega (arith, b.weight env h, weight_push (take i es) e env, holds_weight _ new s (holds env (fits_later scope old now env b.later h)));
     })
 
--- joined bodies
-pub joined_push : (op : LogicOp) (xs : List Value) (v : Value) → 0 < length xs → connected_all op (xs ++ v ∷ []) ≡ connected_value op (connected_all op xs) v
-joined_push op [] v h = absurd (omega arith)
-joined_push op (x ∷ xs) v h = fold_push (connected_value op) _ xs v
+-- bodies in order, their formulas and their weights
+pub bodies_back : (vs : List Value) → list_of (values_from vs) ≡ vs
+bodies_back [] = refl
+bodies_back (v ∷ vs) = ap (λ xs. v ∷ xs) (bodies_back vs)
 
-fold_weight : (vs : List Value) (op : LogicOp) (a : Value) → weight (fold (connected_value op) a vs) ≡ weight a + sum_by weight vs + length vs
-fold_weight [] op a = omega arith
-fold_weight (v ∷ vs) op a =
-    let rest : weight (fold (connected_value op) a (v ∷ vs)) ≡ (1 + weight a + weight v) + sum_by weight vs + length vs = fold_weight vs op (connected_value op a v) in
-    omega (arith, rest, sum_by-cons weight v vs)
+pub formulas_back : (vs : List Value) → formulas_in (values_from vs) ≡ map formula_of vs
+formulas_back [] = refl
+formulas_back (v ∷ vs) = ap (λ ps. formula_of v ∷ ps) (formulas_back vs)
+
+pub weights_back : (vs : List Value) → parts_weight (values_from vs) ≡ sum_by weight vs
+weights_back vs = parts_sum (values_from vs) ∙ ap (sum_by weight) (bodies_back vs)
+
+-- the first of a list and the next one
+pub sum_next : (vs : List Value) (i : ℕ) (v : Value) → slice_get vs i ≡ Some v → sum_by weight (take (i + 1) vs) ≡ sum_by weight (take i vs) + weight v
+sum_next vs i v h = ap (sum_by weight) (take_next vs i v h) ∙ sum_by_push weight (take i vs) v
+
+-- joined bodies
+pub joined_formulas : (op : LogicOp) (vs : List Value) → formula_of (connected_all op vs) ≡ joined_formula op (map formula_of vs)
+joined_formulas op vs = ap (joined_formula op) (formulas_back vs)
+
+joined_push : (op : LogicOp) (ps : List Formula) (p : Formula) → 0 < length ps → joined_formula op (ps ++ p ∷ []) ≡ connected op (joined_formula op ps) p
+joined_push op [] p h = absurd (omega arith)
+joined_push op (q ∷ ps) p h = fold_push (connected op) q ps p
 
 pub joined_weight : (op : LogicOp) (vs : List Value) → weight (connected_all op vs) ≡ sum_by weight vs + (length vs - 1)
-joined_weight op [] = omega arith
-joined_weight op (v ∷ vs) =
-    let rest : weight (connected_all op (v ∷ vs)) ≡ weight v + sum_by weight vs + length vs = fold_weight vs op (leaf (formula (formula_of v)) (weight v)) in
-    omega (arith, rest, sum_by-cons weight v vs)
+joined_weight op vs = omega (arith, weights_back vs, ap length (bodies_back vs))
 
 pub joined_within : (op : LogicOp) (vs : List Value) (i : ℕ) (v : Value) → slice_get vs i ≡ Some v → 0 < i →
     weight (connected_all op (take i vs)) + 1 + weight v ≤ weight (connected_all op vs)
@@ -131,7 +144,7 @@ values_over body name env s = map (λ v. value_of (shape body) (bind name v env)
 -- the weight of the first expressions
 pub record WeighedSoFar (u : Unfolding) (scope : Scope) (es : List Expr) (room left : ℕ) : Type 0 where
   pub inside : left < room
-  pub weight : (env : Env) → Fits u scope env → room ≡ left + (1 + sum_by weight (list_of (values_of (shapes es) env)))
+  pub weight : (env : Env) → Fits u scope env → room ≡ left + (1 + parts_weight (values_of (shapes es) env))
 
 pub weighed_more : (u : Unfolding) (scope : Scope) (es : List Expr) (i : ℕ) (e : Expr) (s : Summary) (room left : ℕ) →
     WeighedSoFar u scope (take i es) room left → slice_get es i ≡ Some e →
@@ -172,22 +185,40 @@ pub none_left : {A : Type 0} (xs : List A) (n : ℕ) → n ≡ length xs → n �
 none_left [] n e z = refl
 none_left (x ∷ xs) n e z = absurd (omega arith)
 
-pub joined_one : (op : LogicOp) (vs : List Value) (v : Value) → slice_get vs 0 ≡ Some v →
-    leaf (formula (formula_of v)) (weight v) ≡ connected_all op (take 1 vs)
+pub joined_one : (op : LogicOp) (vs : List Value) (v : Value) → slice_get vs 0 ≡ Some v → connected_all op (v ∷ []) ≡ connected_all op (take 1 vs)
 joined_one op vs v h = sym (ap (connected_all op) (take_next vs 0 v h))
 
 pub joined_next : (op : LogicOp) (vs : List Value) (i : ℕ) (v : Value) → slice_get vs i ≡ Some v → 0 < i →
-    connected_value op (connected_all op (take i vs)) v ≡ connected_all op (take (i + 1) vs)
+    connected op (formula_of (connected_all op (take i vs))) (formula_of v) ≡ formula_of (connected_all op (take (i + 1) vs))
 joined_next op vs i v h some =
     let inside : i < length vs = slice_get_within vs i v h in
     let count : length (take i vs) ≡ i = length-take-le i vs (omega arith) in
-    sym (ap (connected_all op) (take_next vs i v h) ∙ joined_push op (take i vs) v (omega arith))
+    ap (λ p. connected op p (formula_of v)) (joined_formulas op (take i vs))
+    ∙ sym (joined_formulas op (take (i + 1) vs)
+    ∙ (ap (λ xs. joined_formula op (map formula_of xs)) (take_next vs i v h)
+    ∙ (ap (joined_formula op) (map-append formula_of (take i vs) (v ∷ []))
+    ∙ joined_push op (map formula_of (take i vs)) (formula_of v) (omega (arith, length-map (take i vs) formula_of)))))
+
+-- what is known of joined bodies and of one more under the operator is known of them all
+pub joined_known : (s : Summary) (op : LogicOp) (vs : List Value) (i : ℕ) (v : Value) → slice_get vs i ≡ Some v → 0 < i →
+    IsSummary s (binary_value (binary.Logic op) (connected_all op (take i vs)) v) → IsSummary s (connected_all op (take (i + 1) vs))
+joined_known s op vs i v h some known =
+    let inside : i < length vs = slice_get_within vs i v h in
+    record {
+      weight = omega (
+        arith,
+        known.weight,
+        joined_weight op (take i vs),
+        joined_weight op (take (i + 1) vs),
+        sum_next vs i v h,
+        length-take-le i vs (omega arith),
+        length-take-le (i + 1) vs (omega arith),
+      );
+      fact = subst (λ p. Tells s.fact (Some (formula p))) (joined_next op vs i v h some) known.fact;
+    }
 
 pub bodies_count : (q : Bodies) (env : Env) (s : Value) → length (bodies_over q env s) ≡ length (members s)
 bodies_count q env s = length-map (members s) (λ v. value_of (shape q.body.now) (bind q.name.now v env))
-
-pub sum_next : (vs : List Value) (i : ℕ) (v : Value) → slice_get vs i ≡ Some v → sum_by weight (take (i + 1) vs) ≡ sum_by weight (take i vs) + weight v
-sum_next vs i v h = ap (sum_by weight) (take_next vs i v h) ∙ sum_by_push weight (take i vs) v
 
 pub gathered_push : (ps : List Formula) (p : Formula) → gathered (ps ++ p ∷ []) ≡ disjunction p (gathered ps)
 gathered_push ps p = fold_push (λ found p. disjunction p found) falsity ps p
@@ -228,24 +259,24 @@ gathered_more u scope set q room i fact new left last next g light inside holds 
 }
 
 -- counting quantifiers over some bodies
-pub counted_is_some : (op : CountOp) (m : ℕ) (vs : List Value) → 0 < length vs → counted op m vs ≡ counted_some op m vs
-counted_is_some op m [] h = absurd (omega arith)
-counted_is_some op m (v ∷ vs) h = refl
+pub counted_means : (op : CountOp) (m : ℕ) (vs : List Value) → 0 < length vs →
+    formula_of (counted op m vs) ≡ counted_formula (map formula_of vs) (counting op (length vs) m)
+counted_means op m [] h = absurd (omega arith)
+counted_means op m (v ∷ vs) h =
+    ap (λ ps. counted_formula ps (counting op (length ps) m)) (formulas_back (v ∷ vs))
+    ∙ ap (λ n. counted_formula (map formula_of (v ∷ vs)) (counting op n m)) (length-map (v ∷ vs) formula_of)
 
 pub counted_weight : (op : CountOp) (m : ℕ) (vs : List Value) → 0 < length vs → weight (counted op m vs) ≡ sum_by weight vs + counting_weight (length vs) m
-counted_weight op m vs h = ap weight (counted_is_some op m vs h)
+counted_weight op m [] h = absurd (omega arith)
+counted_weight op m (v ∷ vs) h =
+    ap (λ n. n + counting_weight (length (list_of (values_from (v ∷ vs)))) m) (weights_back (v ∷ vs))
+    ∙ ap (λ xs. sum_by weight (v ∷ vs) + counting_weight (length xs) m) (bodies_back (v ∷ vs))
 
-pub counted_tells : (op : CountOp) (n m : ℕ) (vs : List Value) (f : Fact) → n ≡ length vs →
-    Tells f (Some (formula (counted_formula (map formula_of vs) (counting op n m)))) → Tells f (tree_in (counted_some op m vs))
-counted_tells op n m vs f count h = subst (λ k. Tells f (Some (formula (counted_formula (map formula_of vs) (counting op k m))))) count h
-
--- the weight of an operator over two operands
-pub binary_weight : (op : BinaryOp) (v w : Value) → weight (binary_value op v w) ≡ 1 + weight v + weight w
-binary_weight (binary.Arith op) v w = refl
-binary_weight (binary.Compare op) v w = refl
-binary_weight (binary.Logic op) v w = refl
-binary_weight (binary.Between op a b) v w = refl
+pub counted_tells : (op : CountOp) (n m : ℕ) (vs : List Value) (f : Fact) → 0 < length vs → n ≡ length vs →
+    Tells f (Some (formula (counted_formula (map formula_of vs) (counting op n m)))) → Tells f (tree_in (counted op m vs))
+counted_tells op n m vs f some count h =
+    subst (λ p. Tells f (Some (formula p))) (ap (λ k. counted_formula (map formula_of vs) (counting op k m)) count ∙ sym (counted_means op m vs some)) h
 
 -- nothing is known of a body where its variable is no stored value
 pub not_known : (u : Unfolding) (scope : Scope) (q : Bodies) (known : BodyFact) → known.member ≡ None → IsOfBody u scope q known
-not_known u scope q known none = record { holds = λ env s v some. cc }
+not_known u scope q known nothing = record { holds = λ env s v some. cc }

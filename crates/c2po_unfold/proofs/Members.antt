@@ -1,23 +1,20 @@
 -- Parts and members by their places.
 
-use Rattle.std.proofs.Common.{◌≡◌, ℕ, zero, suc, true, Some, List, [], ◌∷◌, map, fold, length, get_or, slice_get, ◌++◌, ◌<◌, refl, sym, subst, ap, ◌∙◌}
+use Rattle.std.proofs.Common.{◌≡◌, ℕ, zero, suc, true, Some, List, [], ◌∷◌, map, length, get_or, slice_get, ◌++◌, ◌<◌, refl, sym, subst, ap, ◌∙◌}
 use Rattle.std.proofs.lemmas.Option.{slice_get_read}
 use Rattle.c2po_nodes.proofs.Places.{get_last}
 use Rattle.c2po_ast.specs.Shape as tree
 use Rattle.c2po_ast.specs.Shape.{Shape, shape, shapes}
 use Rattle.c2po_ast.specs.declared.tree.Expr.{Expr}
-use Rattle.mltl_base.specs.declared.operators.LogicOp.{LogicOp}
-use Rattle.mltl_base.specs.declared.operators.LogicOp.TheVariants.{And, Or}
-use Rattle.mltl_base.specs.declared.operators.CountOp.{CountOp}
-use Rattle.c2po_nodes.specs.Nodes.{Tree}
 use Rattle.c2po_unfold.specs.declared.values.Stored.{Stored}
 use Rattle.c2po_unfold.specs.declared.unfolding.Unfolding.{Unfolding}
 use Rattle.c2po_nodes.specs.Faults.{or_later}
 use Rattle.c2po_unfold.specs.Facts.{told_fault}
 use Rattle.c2po_unfold.specs.Faults.{value_fault, values_fault}
 use Rattle.c2po_unfold.specs.Parts.{stored_fault}
-use Rattle.c2po_unfold.specs.Values.{Value, Values, leaf, structure, set, none, more, list_of, weight, connected_value, connected_all, counted, members}
-use Rattle.c2po_unfold.specs.Environment.{Env, bind, value_of, values_of}
+use Rattle.c2po_unfold.specs.Values.{Value, Values, Leaf, leaf, structure, set, none, more, list_of}
+use Rattle.c2po_unfold.specs.Weights.{weight}
+use Rattle.c2po_unfold.specs.Environment.{Env, value_of, values_of}
 use Rattle.c2po_unfold.specs.Holding.{Holds, HoldAll}
 use Rattle.c2po_unfold.specs.Heads.{is_operator}
 
@@ -53,39 +50,26 @@ hold_at (more w vs) u ss (suc i) s v h a b =
 
 -- an operator's value is a number or a formula
 pub record IsLeaf (v : Value) : Type 0 where
-  pub tree : Tree
-  pub load : ℕ
-  pub is : v ≡ leaf tree load
-
-joined_is_leaf : (vs : List Value) (op : LogicOp) (t : Tree) (w : ℕ) → IsLeaf (fold (connected_value op) (leaf t w) vs)
-joined_is_leaf [] op t w = record { tree = t; load = w; is = refl }
-joined_is_leaf (v ∷ vs) op t w = joined_is_leaf vs op _ _
-
-pub all_is_leaf : (op : LogicOp) (vs : List Value) → IsLeaf (connected_all op vs)
-all_is_leaf op [] = record { tree = _; load = _; is = refl }
-all_is_leaf op (v ∷ vs) = joined_is_leaf vs op _ _
-
-counted_is_leaf : (op : CountOp) (m : ℕ) (vs : List Value) → IsLeaf (counted op m vs)
-counted_is_leaf op m [] = record { tree = _; load = _; is = refl }
-counted_is_leaf op m (v ∷ vs) = record { tree = _; load = _; is = refl }
+  pub of : Leaf
+  pub is : v ≡ leaf of
 
 pub operator_is_leaf : (e : Shape) (env : Env) → is_operator e ≡ true → IsLeaf (value_of e env)
-operator_is_leaf (tree.number line n) env h = record { tree = _; load = _; is = refl }
-operator_is_leaf (tree.truth line b) env h = record { tree = _; load = _; is = refl }
+operator_is_leaf (tree.number line n) env h = record { of = _; is = refl }
+operator_is_leaf (tree.truth line b) env h = record { of = _; is = refl }
 operator_is_leaf (tree.named line x) env h = cc
 operator_is_leaf (tree.build line x es) env h = cc
 operator_is_leaf (tree.group line es) env h = cc
 operator_is_leaf (tree.pick line e x) env h = cc
-operator_is_leaf (tree.minus line e) env h = record { tree = _; load = _; is = refl }
-operator_is_leaf (tree.negation line e) env h = record { tree = _; load = _; is = refl }
-operator_is_leaf (tree.arith line op e f) env h = record { tree = _; load = _; is = refl }
-operator_is_leaf (tree.compare line op e f) env h = record { tree = _; load = _; is = refl }
-operator_is_leaf (tree.logic line op e f) env h = record { tree = _; load = _; is = refl }
-operator_is_leaf (tree.window line op a b e) env h = record { tree = _; load = _; is = refl }
-operator_is_leaf (tree.between line op a b e f) env h = record { tree = _; load = _; is = refl }
-operator_is_leaf (tree.each line x s e) env h = all_is_leaf And (map (λ v. value_of e (bind x v env)) (members (value_of s env)))
-operator_is_leaf (tree.exists line x s e) env h = all_is_leaf Or (map (λ v. value_of e (bind x v env)) (members (value_of s env)))
-operator_is_leaf (tree.count line op x s m e) env h = counted_is_leaf op m (map (λ v. value_of e (bind x v env)) (members (value_of s env)))
+operator_is_leaf (tree.minus line e) env h = record { of = _; is = refl }
+operator_is_leaf (tree.negation line e) env h = record { of = _; is = refl }
+operator_is_leaf (tree.arith line op e f) env h = record { of = _; is = refl }
+operator_is_leaf (tree.compare line op e f) env h = record { of = _; is = refl }
+operator_is_leaf (tree.logic line op e f) env h = record { of = _; is = refl }
+operator_is_leaf (tree.window line op a b e) env h = record { of = _; is = refl }
+operator_is_leaf (tree.between line op a b e f) env h = record { of = _; is = refl }
+operator_is_leaf (tree.each line x s e) env h = record { of = _; is = refl }
+operator_is_leaf (tree.exists line x s e) env h = record { of = _; is = refl }
+operator_is_leaf (tree.count line op x s m e) env h = record { of = _; is = refl }
 
 -- what was looked up in a slice stands in the list
 pub found_at : {A : Type 0} (xs ys : List A) (i : ℕ) (x : A) → xs ≡ ys → i < length xs → x ≡ get_or xs i x → slice_get ys i ≡ Some x
@@ -96,14 +80,14 @@ pub at_place : {A : Type 0} (xs ys : List A) (x : A) (n : ℕ) → ys ≡ xs ++ 
 at_place xs ys x n e m = subst (λ zs. slice_get zs n ≡ Some x) (sym e) (subst (λ k. slice_get (xs ++ x ∷ []) k ≡ Some x) (sym m) (get_last xs x))
 
 pub holds_weight : (v : Value) (u : Unfolding) (s : Stored) → Holds u s v → s.weight ≡ weight v
-holds_weight (leaf t w) u s h = h.0
-holds_weight (structure x vs w) u s h = h.0
-holds_weight (set vs w) u s h = h.0
+holds_weight (leaf l) u s h = h.0
+holds_weight (structure x vs) u s h = h.0
+holds_weight (set vs) u s h = h.0
 
 pub holds_fault : (v : Value) (u : Unfolding) (s : Stored) → Holds u s v → told_fault s.fault ≡ value_fault v
-holds_fault (leaf t w) u s h = h.1.5
-holds_fault (structure x vs w) u s h = h.1.5
-holds_fault (set vs w) u s h = h.1.5
+holds_fault (leaf l) u s h = h.1.5
+holds_fault (structure x vs) u s h = h.1.5
+holds_fault (set vs) u s h = h.1.5
 
 pub store_fault : (vs : Values) (u : Unfolding) (ss : List Stored) → HoldAll u ss vs → stored_fault ss ≡ values_fault vs
 store_fault none u ss h = ap stored_fault h

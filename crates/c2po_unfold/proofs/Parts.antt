@@ -26,15 +26,15 @@ use Rattle.c2po_unfold.proofs.Members.{values_count, value_at, hold_count, hold_
 pub held_part_some : (v : Value) (u : Unfolding) (s part : Stored) (i : ℕ) (p : Parts) (x : List ℕ) (k : ℕ) (fields : List ℕ → List (List ℕ)) (f : List ℕ) →
     Holds u s v → s.location ≡ PartsAt i → slice_get u.parts i ≡ Some p → p.whole ≡ whole.Struct x →
     position (bytes_eq f) (fields x) ≡ Some k → slice_get p.members k ≡ Some part → Holds u part (picked fields f v)
-held_part_some (leaf t w) u s part i p x k fields f h e a n q b = cc
-held_part_some (set vs w) u s part i p x k fields f h e a n q b =
+held_part_some (leaf l) u s part i p x k fields f h e a n q b = cc
+held_part_some (set vs) u s part i p x k fields f h e a n q b =
     let j : h.1.0 ≡ i = cc in
     let there : slice_get u.parts i ≡ Some (record { whole = whole.Set; members = h.1.1 }) =
     subst (λ m. slice_get u.parts m ≡ Some (record { whole = whole.Set; members = h.1.1 })) j h.1.3 in
     let same : record { whole = whole.Set; members = h.1.1 } ≡ p = same_Some (record { whole = whole.Set; members = h.1.1 }) p (sym there ∙ a) in
     let kind : whole.Set ≡ whole.Struct x = ap (λ (r : Parts). r.whole) same ∙ n in
     cc
-held_part_some (structure y vs w) u s part i p x k fields f h e a n q b =
+held_part_some (structure y vs) u s part i p x k fields f h e a n q b =
     let j : h.1.0 ≡ i = cc in
     let own : Parts = record { whole = whole.Struct y; members = h.1.1 } in
     let there : slice_get u.parts i ≡ Some own = subst (λ m. slice_get u.parts m ≡ Some own) j h.1.3 in
@@ -44,19 +44,19 @@ held_part_some (structure y vs w) u s part i p x k fields f h e a n q b =
     let at : slice_get h.1.1 k ≡ Some part = subst (λ (r : Parts). slice_get r.members k ≡ Some part) (sym same) b in
     let inside : k < length (list_of vs) =
     omega (arith, slice_get_within h.1.1 k part at, hold_count vs u h.1.1 h.1.4) in
-    let found : slice_get (list_of vs) k ≡ Some (slice_index_or (list_of vs) k (structure y vs w)) =
-    slice_get-get_or (list_of vs) k (structure y vs w) inside in
+    let found : slice_get (list_of vs) k ≡ Some (slice_index_or (list_of vs) k (structure y vs)) =
+    slice_get-get_or (list_of vs) k (structure y vs) inside in
     let named : position (bytes_eq f) (fields y) ≡ Some k = subst (λ z. position (bytes_eq f) (fields z) ≡ Some k) (sym name) q in
-    subst (λ o. Holds u part (part_or (structure y vs w) (list_of vs) o)) (sym named)
-    (hold_at vs u h.1.1 k part (slice_index_or (list_of vs) k (structure y vs w)) h.1.4 at found)
+    subst (λ o. Holds u part (part_or (structure y vs) (list_of vs) o)) (sym named)
+    (hold_at vs u h.1.1 k part (slice_index_or (list_of vs) k (structure y vs)) h.1.4 at found)
 
 -- a field that has no part there
 pub held_part_past : (v : Value) (u : Unfolding) (s : Stored) (i : ℕ) (p : Parts) (x : List ℕ) (k : ℕ) (fields : List ℕ → List (List ℕ)) (f : List ℕ) →
     Holds u s v → s.location ≡ PartsAt i → slice_get u.parts i ≡ Some p → p.whole ≡ whole.Struct x →
     position (bytes_eq f) (fields x) ≡ Some k → length p.members ≤ k → Holds u s (picked fields f v)
-held_part_past (leaf t w) u s i p x k fields f h e a n q b = h
-held_part_past (set vs w) u s i p x k fields f h e a n q b = h
-held_part_past (structure y vs w) u s i p x k fields f h e a n q b =
+held_part_past (leaf l) u s i p x k fields f h e a n q b = h
+held_part_past (set vs) u s i p x k fields f h e a n q b = h
+held_part_past (structure y vs) u s i p x k fields f h e a n q b =
     let j : h.1.0 ≡ i = cc in
     let own : Parts = record { whole = whole.Struct y; members = h.1.1 } in
     let there : slice_get u.parts i ≡ Some own = subst (λ m. slice_get u.parts m ≡ Some own) j h.1.3 in
@@ -66,8 +66,8 @@ held_part_past (structure y vs w) u s i p x k fields f h e a n q b =
     let count : length h.1.1 ≡ length p.members = ap (λ (r : Parts). length r.members) same in
     let past : length (list_of vs) ≤ k = omega (arith, hold_count vs u h.1.1 h.1.4) in
     let named : position (bytes_eq f) (fields y) ≡ Some k = subst (λ z. position (bytes_eq f) (fields z) ≡ Some k) (sym name) q in
-    subst (λ o. Holds u s (part_or (structure y vs w) (list_of vs) o)) (sym named)
-    (subst (λ r. Holds u s r) (sym (get_or_past (list_of vs) k (structure y vs w) past)) h)
+    subst (λ o. Holds u s (part_or (structure y vs) (list_of vs) o)) (sym named)
+    (subst (λ r. Holds u s r) (sym (get_or_past (list_of vs) k (structure y vs) past)) h)
 
 -- the members of heads
 pub set_count : (u : Unfolding) (h : Head) (scope : Bor Scope) (d : Bor Expr) (es : Bor (List Expr)) (v : Value) → h ≡ head.Set scope d es → Heads u h v →
@@ -77,15 +77,15 @@ set_count u h scope d es v e k =
     sym (ap (λ w. length (members w)) g.2 ∙ values_count es.now g.0)
 
 pub members_count : (v : Value) (u : Unfolding) (ss : List Stored) → HoldMembers u ss v → length ss ≡ length (members v)
-members_count (leaf t w) u ss h = ap length h
-members_count (structure x vs w) u ss h = ap length h
-members_count (set vs w) u ss h = hold_count vs u ss h
+members_count (leaf l) u ss h = ap length h
+members_count (structure x vs) u ss h = ap length h
+members_count (set vs) u ss h = hold_count vs u ss h
 
 pub member_held : (s : Value) (u : Unfolding) (ss : List Stored) (i : ℕ) (r : Stored) (v : Value) → HoldMembers u ss s →
     slice_get ss i ≡ Some r → slice_get (members s) i ≡ Some v → Holds u r v
-member_held (leaf t w) u ss i r v h a b = cc
-member_held (structure x vs w) u ss i r v h a b = cc
-member_held (set vs w) u ss i r v h a b = hold_at vs u ss i r v h a b
+member_held (leaf l) u ss i r v h a b = cc
+member_held (structure x vs) u ss i r v h a b = cc
+member_held (set vs) u ss i r v h a b = hold_at vs u ss i r v h a b
 
 pub leaf_members : (e : Shape) (env : Env) (v : Value) → v ≡ value_of e env → is_operator e ≡ true → members v ≡ []
 leaf_members e env v same op =
@@ -96,7 +96,7 @@ pub leaf_picked : (e : Shape) (env : Env) (v : Value) (fields : List ℕ → Lis
     is_operator e ≡ true → picked fields f v ≡ v
 leaf_picked e env v fields f same op =
     let l = operator_is_leaf e env op in
-    let is : v ≡ leaf l.tree l.load = same ∙ l.is in
+    let is : v ≡ leaf l.of = same ∙ l.is in
     subst (λ w. picked fields f w ≡ w) (sym is) refl
 
 -- the value of an expression among a set's members

@@ -70,3 +70,13 @@ pub first_names : (xs : List (List ℕ)) (i : ℕ) (x : List ℕ) → slice_get 
 first_names xs i x h =
     let inside : i < length xs = slice_get_within xs i x h in
     take_more xs i x inside ∙ ap (λ y. take i xs ++ y ∷ []) (get_or_from_slice_get xs i x x h)
+
+-- the first name has the place 0
+pub first_place : (x y : List ℕ) (xs : List (List ℕ)) → slice_get xs 0 ≡ Some x → bytes_eq y x ≡ true → position (bytes_eq y) xs ≡ Some 0
+first_place x y [] h same = absurd (cc)
+first_place x y (z ∷ xs) h same =
+    position_from-zero (bytes_eq y) (z ∷ xs)
+    ∙ ap (λ b. cond b (Some 0) (position_from (bytes_eq y) 1 xs)) (subst (λ w. bytes_eq y w ≡ true) (sym is) same)
+  where
+    is : z ≡ x
+    is = cc

@@ -15,8 +15,8 @@ use Rattle.mltl_base.specs.Formula.{Formula, atom, negation}
 use Rattle.count_sets.specs.Counting as counting
 use Rattle.c2po_ast.specs.Shape as tree
 use Rattle.c2po_ast.specs.Shape.{Shape, Shapes}
-use Rattle.c2po_nodes.specs.Nodes.{Tree, number, formula, constant_formula, arithmetic, comparison, connected, windowed, ranged}
-use Rattle.c2po_unfold.specs.Values.{Value, Values, leaf, structure, set, none, more, weight, list_of, term_of, formula_of, members, part_or, picked, connected_value, connected_all, body_at, counted_formula, counted, interval}
+use Rattle.c2po_nodes.specs.Nodes.{Tree, number, formula, term_in, formula_in, constant_formula, arithmetic, comparison, connected, windowed, ranged}
+use Rattle.c2po_unfold.specs.Values.{Value, Values, leaf, structure, set, none, more, list_of, values_from, leaf_tree, term_of, formula_of, formulas_in, members, part_or, picked, joined_formula, connected_all, body_at, counted_formula, counting_formula, counted, interval}
 use Rattle.c2po_unfold.specs.Environment.{Env, Known, nothing, fields, value, bind, declare, or_else, fields_in, value_in, value_of, values_of}
 
 -- what is said of each constant of an expression
@@ -91,9 +91,9 @@ module _ (IsTerm : Term → Type 0) (IsFormula : Formula → Type 0) where
 
   abbrev mutual
     pub ValueHas : Value → Type 0
-    ValueHas (leaf t w) = TreeHas t
-    ValueHas (structure x vs w) = ValuesHave vs
-    ValueHas (set vs w) = ValuesHave vs
+    ValueHas (leaf l) = TreeHas (leaf_tree l)
+    ValueHas (structure x vs) = ValuesHave vs
+    ValueHas (set vs) = ValuesHave vs
 
     pub ValuesHave : Values → Type 0
     ValuesHave none = ⊤
@@ -144,9 +144,9 @@ module _ (IsTerm : Term → Type 0) (IsFormula : Formula → Type 0) where
   list_has (more v vs) h = (h.0, list_has vs h.1)
 
   members_have : (v : Value) → ValueHas v → AllHave (members v)
-  members_have (set vs w) h = list_has vs h
-  members_have (structure x vs w) h = tt
-  members_have (leaf t w) h = tt
+  members_have (set vs) h = list_has vs h
+  members_have (structure x vs) h = tt
+  members_have (leaf l) h = tt
 
   index_has : (vs : List Value) (i : ℕ) (d : Value) → AllHave vs → ValueHas d → ValueHas (slice_index_or vs i d)
   index_has [] i d g h = h
@@ -158,10 +158,10 @@ module _ (IsTerm : Term → Type 0) (IsFormula : Formula → Type 0) where
   part_has d vs None g h = h
 
   pick_has : (names : List ℕ → List (List ℕ)) (x : List ℕ) (v : Value) → ValueHas v → ValueHas (picked names x v)
-  pick_has names x (structure y vs w) h =
-      part_has (structure y vs w) (list_of vs) (position (bytes_eq x) (names y)) (list_has vs h) h
-  pick_has names x (set vs w) h = h
-  pick_has names x (leaf t w) h = h
+  pick_has names x (structure y vs) h =
+      part_has (structure y vs) (list_of vs) (position (bytes_eq x) (names y)) (list_has vs h) h
+  pick_has names x (set vs) h = h
+  pick_has names x (leaf l) h = h
 
   bodies_have : (body : Value → Value) (vs : List Value) → ((v : Value) → ValueHas v → ValueHas (body v)) → AllHave vs → AllHave (map body vs)
   bodies_have body [] f h = tt
@@ -170,17 +170,23 @@ module _ (IsTerm : Term → Type 0) (IsFormula : Formula → Type 0) where
 module _ (IsConstant : ℤ → Type 0) (IsTerm : Term → Type 0) (IsFormula : Formula → Type 0) (keeps : Keeps IsConstant IsTerm IsFormula) where
   -- ---- operands
 
+  integer_has : (t : Tree) → TreeHas IsTerm IsFormula t → IsTerm (term_in (Some t))
+  integer_has (number a) h = h
+  integer_has (formula p) h = keeps.zero_has
+
+  truth_has : (t : Tree) → TreeHas IsTerm IsFormula t → IsFormula (formula_in (Some t))
+  truth_has (number a) h = keeps.truths false
+  truth_has (formula p) h = h
+
   term_has : (v : Value) → ValueHas IsTerm IsFormula v → IsTerm (term_of v)
-  term_has (leaf (number a) w) h = h
-  term_has (leaf (formula p) w) h = keeps.zero_has
-  term_has (structure x vs w) h = keeps.zero_has
-  term_has (set vs w) h = keeps.zero_has
+  term_has (leaf l) h = integer_has (leaf_tree l) h
+  term_has (structure x vs) h = keeps.zero_has
+  term_has (set vs) h = keeps.zero_has
 
   pub formula_has : (v : Value) → ValueHas IsTerm IsFormula v → IsFormula (formula_of v)
-  formula_has (leaf (formula p) w) h = h
-  formula_has (leaf (number a) w) h = keeps.truths false
-  formula_has (structure x vs w) h = keeps.truths false
-  formula_has (set vs w) h = keeps.truths false
+  formula_has (leaf l) h = truth_has (leaf_tree l) h
+  formula_has (structure x vs) h = keeps.truths false
+  formula_has (set vs) h = keeps.truths false
 
   name_has : (k : Known) → KnownHas IsTerm IsFormula k → ValueHas IsTerm IsFormula (value_in k)
   name_has nothing h = keeps.truths false
@@ -189,19 +195,20 @@ module _ (IsConstant : ℤ → Type 0) (IsTerm : Term → Type 0) (IsFormula : F
 
   -- ---- quantifiers
 
-  fold_has : (op : LogicOp) (v : Value) (vs : List Value) → ValueHas IsTerm IsFormula v → AllHave IsTerm IsFormula vs
-      → ValueHas IsTerm IsFormula (fold (connected_value op) v vs)
-  fold_has op v [] g h = g
-  fold_has op v (w ∷ vs) g h =
-      fold_has op (connected_value op v w) vs (keeps.connectives op (formula_of v) (formula_of w) (formula_has v g) (formula_has w h.0)) h.1
+  bodies_are : (vs : List Value) → AllHave IsTerm IsFormula vs → FormulasHave IsTerm IsFormula (formulas_in (values_from vs))
+  bodies_are [] h = tt
+  bodies_are (v ∷ vs) h = (formula_has v h.0, bodies_are vs h.1)
+
+  fold_has : (op : LogicOp) (p : Formula) (ps : List Formula) → IsFormula p → FormulasHave IsTerm IsFormula ps → IsFormula (fold (connected op) p ps)
+  fold_has op p [] g h = g
+  fold_has op p (q ∷ ps) g h = fold_has op (connected op p q) ps (keeps.connectives op p q g h.0) h.1
+
+  formulas_join : (op : LogicOp) (ps : List Formula) → FormulasHave IsTerm IsFormula ps → IsFormula (joined_formula op ps)
+  formulas_join op [] h = keeps.truths false
+  formulas_join op (p ∷ ps) h = fold_has op p ps h.0 h.1
 
   joined_has : (op : LogicOp) (vs : List Value) → AllHave IsTerm IsFormula vs → ValueHas IsTerm IsFormula (connected_all op vs)
-  joined_has op [] h = keeps.truths false
-  joined_has op (v ∷ vs) h = fold_has op (leaf (formula (formula_of v)) (weight v)) vs (formula_has v h.0) h.1
-
-  formulas_have : (vs : List Value) → AllHave IsTerm IsFormula vs → FormulasHave IsTerm IsFormula (map formula_of vs)
-  formulas_have [] h = tt
-  formulas_have (v ∷ vs) h = (formula_has v h.0, formulas_have vs h.1)
+  joined_has op vs h = formulas_join op (formulas_in (values_from vs)) (bodies_are vs h)
 
   body_has : (bodies : List Formula) (i : ℕ) → FormulasHave IsTerm IsFormula bodies → IsFormula (body_at bodies i)
   body_has [] i h = keeps.truths false
@@ -216,9 +223,12 @@ module _ (IsConstant : ℤ → Type 0) (IsTerm : Term → Type 0) (IsFormula : F
   gates_have bodies (counting.either p q) h = keeps.connectives Or (counted_formula bodies p) (counted_formula bodies q) (gates_have bodies p h) (gates_have bodies q h)
   gates_have bodies (counting.negation p) h = keeps.negations (counted_formula bodies p) (gates_have bodies p h)
 
+  formulas_count : (op : CountOp) (m : ℕ) (ps : List Formula) → FormulasHave IsTerm IsFormula ps → IsFormula (counting_formula op m ps)
+  formulas_count op m [] h = keeps.truths false
+  formulas_count op m (p ∷ ps) h = gates_have (p ∷ ps) (counting.counting op (length (p ∷ ps)) m) h
+
   count_has : (op : CountOp) (m : ℕ) (vs : List Value) → AllHave IsTerm IsFormula vs → ValueHas IsTerm IsFormula (counted op m vs)
-  count_has op m [] h = keeps.truths false
-  count_has op m (v ∷ vs) h = gates_have (map formula_of (v ∷ vs)) (counting.counting op (length (v ∷ vs)) m) (formulas_have (v ∷ vs) h)
+  count_has op m vs h = formulas_count op m (formulas_in (values_from vs)) (bodies_are vs h)
 
   -- ---- expressions
 

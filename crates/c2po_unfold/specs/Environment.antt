@@ -1,18 +1,14 @@
 -- The values of names and of expressions.
 
-use Rattle.std.specs.Prelude.{ℕ, Bool, true, false, List, [], map, if◌then◌else◌}
+use Rattle.std.specs.Prelude.{ℕ, Bool, false, List, [], map, if◌then◌else◌}
 use Rattle.std.specs.Str.{bytes_eq}
 use Rattle.mltl_base.specs.declared.operators.LogicOp.TheVariants.{And, Or}
-use Rattle.mltl_base.specs.Atoms.{is_true, column}
-use Rattle.mltl_base.specs.Formula.{atom}
-use Rattle.c2po_nodes.specs.Nodes.{number, formula}
 use Rattle.c2po_ast.specs.Shape as tree
 use Rattle.c2po_ast.specs.Shape.{Shape, Shapes}
-use Rattle.c2po_unfold.specs.Values.{Value, Values, leaf, none, more, number_value, truth_value, built, grouped}
-use Rattle.c2po_unfold.specs.Values.{opposite}
-use Rattle.c2po_unfold.specs.Values.{inverted, computed, compared, connected_value, windowed_value, ranged_value}
-use Rattle.c2po_unfold.specs.Values.{members}
-use Rattle.c2po_unfold.specs.Values.{picked, connected_all, counted}
+use Rattle.c2po_unfold.specs.declared.operators.UnaryOp.TheVariants.{Minus, Not, Window}
+use Rattle.c2po_unfold.specs.declared.operators.BinaryOp.TheVariants.{Arith, Compare, Logic, Between}
+use Rattle.c2po_unfold.specs.Values.{Value, Values, leaf, none, more, signal, one, two, number_value, truth_value, built}
+use Rattle.c2po_unfold.specs.Values.{grouped, members, picked, connected_all, counted}
 
 -- the meaning of a name: a struct with these fields, or a value
 pub data Known : Type 0 where
@@ -44,8 +40,7 @@ declare x k env y = or_else (env y) (if bytes_eq y x then k else nothing)
 
 -- the value of the signal with a number, of kind bool or int
 abbrev pub signal_value : Bool → ℕ → Value
-signal_value true n = leaf (formula (atom (is_true n))) 1
-signal_value false n = leaf (number (column n)) 1
+signal_value b n = leaf (signal b n)
 
 -- the value of a name: any value where it has none
 abbrev pub value_in : Known → Value
@@ -68,13 +63,13 @@ abbrev mutual
   value_of (tree.build line x es) env = built x (values_of es env)
   value_of (tree.group line es) env = grouped (values_of es env)
   value_of (tree.pick line e x) env = picked (λ y. fields_in (env y)) x (value_of e env)
-  value_of (tree.minus line e) env = opposite (value_of e env)
-  value_of (tree.negation line e) env = inverted (value_of e env)
-  value_of (tree.arith line op e f) env = computed op (value_of e env) (value_of f env)
-  value_of (tree.compare line op e f) env = compared op (value_of e env) (value_of f env)
-  value_of (tree.logic line op e f) env = connected_value op (value_of e env) (value_of f env)
-  value_of (tree.window line op a b e) env = windowed_value op a b (value_of e env)
-  value_of (tree.between line op a b e f) env = ranged_value op a b (value_of e env) (value_of f env)
+  value_of (tree.minus line e) env = leaf (one Minus (value_of e env))
+  value_of (tree.negation line e) env = leaf (one Not (value_of e env))
+  value_of (tree.arith line op e f) env = leaf (two (Arith op) (value_of e env) (value_of f env))
+  value_of (tree.compare line op e f) env = leaf (two (Compare op) (value_of e env) (value_of f env))
+  value_of (tree.logic line op e f) env = leaf (two (Logic op) (value_of e env) (value_of f env))
+  value_of (tree.window line op a b e) env = leaf (one (Window op a b) (value_of e env))
+  value_of (tree.between line op a b e f) env = leaf (two (Between op a b) (value_of e env) (value_of f env))
   value_of (tree.each line x s e) env = connected_all And
       (map (λ v. value_of e (bind x v env)) (members (value_of s env)))
   value_of (tree.exists line x s e) env = connected_all Or

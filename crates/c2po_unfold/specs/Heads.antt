@@ -30,9 +30,9 @@ is_operator _ = true
 
 -- stored values are the members of a set; nothing else has any
 abbrev pub HoldMembers : Unfolding → List Stored → Value → Type 0
-HoldMembers u ss (set vs w) = HoldAll u ss vs
-HoldMembers u ss (structure x vs w) = ss ≡ []
-HoldMembers u ss (leaf t w) = ss ≡ []
+HoldMembers u ss (set vs) = HoldAll u ss vs
+HoldMembers u ss (structure x vs) = ss ≡ []
+HoldMembers u ss (leaf l) = ss ≡ []
 
 -- a head has a value
 abbrev pub Heads : Unfolding → Head → Value → Type 0

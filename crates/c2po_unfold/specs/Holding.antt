@@ -1,6 +1,6 @@
 -- What an unfolding holds: which values, and the environment that it represents.
 
-use Rattle.std.specs.Prelude.{ℕ, ◌≡◌, Option, Some, None, List, [], ◌∷◌, slice_get}
+use Rattle.std.specs.Prelude.{ℕ, ◌≡◌, ◌+◌, Option, Some, None, List, [], ◌∷◌, slice_get}
 use Rattle.c2po_unfold.specs.declared.fact.Fact.{Fact}
 use Rattle.mltl_base.specs.Tables.{entry_of}
 use Rattle.c2po_ast.specs.Shape.{shape}
@@ -13,7 +13,8 @@ use Rattle.c2po_unfold.specs.declared.values.Entry.TheVariants as entry
 use Rattle.c2po_unfold.specs.declared.unfolding.Weighed.{Weighed}
 use Rattle.c2po_unfold.specs.declared.unfolding.Unfolding.{Unfolding}
 use Rattle.c2po_unfold.specs.declared.scope.Scope.{Scope, Top, Open', Held'}
-use Rattle.c2po_unfold.specs.Values.{Value, Values, leaf, structure, set, none, more, formula_of, weight as weight_of}
+use Rattle.c2po_unfold.specs.Values.{Value, Values, leaf, structure, set, none, more, formula_of, leaf_tree}
+use Rattle.c2po_unfold.specs.Weights.{leaf_weight, parts_weight, weight as weight_of}
 use Rattle.c2po_nodes.specs.Faults.{tree_fault, formula_fault}
 use Rattle.c2po_nodes.specs.Tenses.{has_past, has_future}
 use Rattle.c2po_unfold.specs.Facts.{Tells, told_fault}
@@ -23,15 +24,15 @@ use Rattle.c2po_unfold.specs.Environment.{Env, Known, nothing, fields, value, va
 -- a stored value, over facts and parts, represents a value
 abbrev mutual
   pub Stores : List Fact → List Parts → Stored → Value → Type 0
-  Stores facts parts s (leaf t w) =
-      (s.weight ≡ w) × ((i : ℕ) × (f : Fact) × (s.location ≡ LeafAt i)
-      × (slice_get facts i ≡ Some f) × Tells f (Some t) × (told_fault s.fault ≡ tree_fault t))
-  Stores facts parts s (structure x vs w) =
-      (s.weight ≡ w) × ((i : ℕ) × (ss : List Stored) × (s.location ≡ PartsAt i)
+  Stores facts parts s (leaf l) =
+      (s.weight ≡ leaf_weight l) × ((i : ℕ) × (f : Fact) × (s.location ≡ LeafAt i)
+      × (slice_get facts i ≡ Some f) × Tells f (Some (leaf_tree l)) × (told_fault s.fault ≡ tree_fault (leaf_tree l)))
+  Stores facts parts s (structure x vs) =
+      (s.weight ≡ 1 + parts_weight vs) × ((i : ℕ) × (ss : List Stored) × (s.location ≡ PartsAt i)
       × (slice_get parts i ≡ Some (record { whole = whole.Struct x; members = ss })) × StoreAll facts parts ss vs
       × (told_fault s.fault ≡ values_fault vs))
-  Stores facts parts s (set vs w) =
-      (s.weight ≡ w) × ((i : ℕ) × (ss : List Stored) × (s.location ≡ PartsAt i)
+  Stores facts parts s (set vs) =
+      (s.weight ≡ 1 + parts_weight vs) × ((i : ℕ) × (ss : List Stored) × (s.location ≡ PartsAt i)
       × (slice_get parts i ≡ Some (record { whole = whole.Set; members = ss })) × StoreAll facts parts ss vs
       × (told_fault s.fault ≡ values_fault vs))
 

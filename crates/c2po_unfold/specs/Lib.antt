@@ -1,4 +1,5 @@
 pub mod Values
+pub mod Weights
 pub mod Environment
 pub mod Holding
 pub mod Heads
@@ -11,3 +12,4 @@ pub mod Bodies
 pub mod Fields
 pub use Rattle.count_sets.specs.Counting
 pub use Rattle.mltl_base.specs.Tables
+pub mod Meanings

@@ -3,28 +3,20 @@
 use Rattle.std.specs.Prelude.{List, map}
 use Rattle.c2po_ast.specs.Shape.{shape}
 use Rattle.c2po_unfold.specs.declared.operators.UnaryOp.{UnaryOp}
-use Rattle.c2po_unfold.specs.declared.operators.UnaryOp.TheVariants as unary
 use Rattle.c2po_unfold.specs.declared.operators.BinaryOp.{BinaryOp}
-use Rattle.c2po_unfold.specs.declared.operators.BinaryOp.TheVariants as binary
 use Rattle.c2po_unfold.specs.declared.operators.Bodies.{Bodies}
 use Rattle.c2po_unfold.specs.declared.operators.Operation.{Operation}
 use Rattle.c2po_unfold.specs.declared.operators.Operation.TheVariants as operation
-use Rattle.c2po_unfold.specs.Values.{Value, opposite, inverted, windowed_value, computed, compared, connected_value}
-use Rattle.c2po_unfold.specs.Values.{ranged_value, members, number_value, truth_value, connected_all, counted}
+use Rattle.c2po_unfold.specs.Values.{Value, leaf, one, two, members, number_value, truth_value, connected_all, counted}
 use Rattle.c2po_unfold.specs.Environment.{Env, bind, value_of}
 
 -- the value of an operator over the value of its operand
 abbrev pub unary_value : UnaryOp → Value → Value
-unary_value unary.Minus v = opposite v
-unary_value unary.Not v = inverted v
-unary_value (unary.Window op a b) v = windowed_value op a b v
+unary_value op v = leaf (one op v)
 
 -- the value of an operator over the values of its two operands
 abbrev pub binary_value : BinaryOp → Value → Value → Value
-binary_value (binary.Arith op) v w = computed op v w
-binary_value (binary.Compare op) v w = compared op v w
-binary_value (binary.Logic op) v w = connected_value op v w
-binary_value (binary.Between op a b) v w = ranged_value op a b v w
+binary_value op v w = leaf (two op v w)
 
 -- the value of a quantifier's body where its variable has a value
 abbrev pub body_value : Bodies → Env → Value → Value

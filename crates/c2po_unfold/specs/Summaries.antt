@@ -6,7 +6,8 @@ use Rattle.mltl_base.specs.declared.operators.CountOp.TheVariants.{Exactly, AtLe
 use Rattle.mltl_base.specs.Formula.{Formula, falsity, disjunction}
 use Rattle.c2po_unfold.specs.Facts.{Tells}
 use Rattle.c2po_unfold.specs.declared.summary.Summary.{Summary}
-use Rattle.c2po_unfold.specs.Values.{Value, tree_in, weight as weight_of}
+use Rattle.c2po_unfold.specs.Values.{Value, tree_in}
+use Rattle.c2po_unfold.specs.Weights.{weight as weight_of}
 
 -- what is known is the value's weight, and the range of its integer, or the fault and the tenses of its formula
 pub record IsSummary (s : Summary) (v : Value) : Type 0 where

@@ -6,7 +6,8 @@ ghost use Rattle.count_sets.specs.Counting.{counting};
 ghost use Rattle.c2po_unfold.specs.Facts.{Tells};
 ghost use Rattle.c2po_nodes.specs.Nodes.{formula};
 ghost use Rattle.c2po_unfold.specs.Summaries.{asks_bodies, gathered};
-ghost use Rattle.c2po_unfold.specs.Values.{counted_formula, counting_weight};
+ghost use Rattle.c2po_unfold.specs.Values.{counted_formula};
+ghost use Rattle.c2po_unfold.specs.Weights.{counting_weight};
 
 use crate::UnfoldFault;
 use crate::fact::Fact;

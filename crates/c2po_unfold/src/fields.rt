@@ -1,6 +1,6 @@
 //! The fields of a struct.
 
-ghost use Rattle.std.specs.Prelude.{◌≡◌, length, position, IfOk};
+ghost use Rattle.std.specs.Prelude.{◌≡◌, true, Some, length, position, IfOk};
 ghost use Rattle.std.specs.Str.{bytes_eq};
 
 use crate::unfolding::next_place;
@@ -49,10 +49,23 @@ impl Fields {
         self.names.len()
     }
 
+    /// Whether a field is the first one.
+    fn is_first(&self, field: &Name) -> bool
+        ensures { result ≡ true → position (bytes_eq field.now) self.now ≡ Some 0 }
+    {
+        match self.names.as_slice().get(0) {
+            Some(first) => field.bytes() == first.bytes(),
+            None => false,
+        }
+    }
+
     /// The place of a field.
     pub fn place(&self, field: &Name) -> Option<usize>
         ensures { result ≡ position (bytes_eq field.now) self.now }
     {
+        if self.is_first(field) {
+            return Some(0);
+        }
         self.places.find(field).map(|place| place as usize)
     }
 }

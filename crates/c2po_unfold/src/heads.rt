@@ -1,6 +1,6 @@
 //! What names and picked fields lead to, without a look at what they leave aside.
 
-ghost use Rattle.std.specs.Prelude.{◌≡◌, ℕ, Some, length, position, slice_get, IfOk, IfErr};
+ghost use Rattle.std.specs.Prelude.{◌≡◌, ℕ, Some, length, position, slice_get, IfOk, IfErr, IfSome};
 ghost use Rattle.std.specs.Str.{bytes_eq};
 ghost use Rattle.c2po_ast.specs.Shape.{shape};
 ghost use Rattle.c2po_unfold.specs.declared.fault.UnfoldFault.TheVariants.{Memory};
@@ -92,6 +92,25 @@ impl Unfolding {
         match parts.members.as_slice().get(place) {
             Some(part) => *part,
             None => stored,
+        }
+    }
+
+    /// The stored value that an expression leads to by names and picked fields, where it does.
+    pub(crate) fn held_value(&self, levels: u32, scope: &Scope<'_>, e: &Expr) -> Option<Stored>
+        ensures { (env : Env) → Fits self.now scope.now env
+            → IfSome result (λ s. Holds self.now s (value_of (shape e.now) env)) }
+    {
+        match &e.node {
+            Node::Ref(name) => match self.look(&*scope, &*name) {
+                Named::Held(stored) => Some(stored),
+                _ => None,
+            },
+            Node::Pick(whole, field) => {
+                let levels = levels.checked_sub(1)?;
+                let stored = (&*self).held_value(levels, &*scope, &*whole)?;
+                Some(self.held_part(&*scope, stored, &*field))
+            }
+            _ => None,
         }
     }
 

@@ -1,6 +1,6 @@
 //! What the definitions of this crate say together: each law is the contract of a function with an empty body.
 
-ghost use Rattle.std.specs.Prelude.{◌≡◌, ◌+◌, ◌-◌, ◌≤◌, ℕ, List as Seq, length, map, sum_by};
+ghost use Rattle.std.specs.Prelude.{◌≡◌, ◌+◌, ◌-◌, ◌<◌, ◌≤◌, ℕ, List as Seq, length, map, sum_by};
 ghost use Rattle.mltl_base.specs.declared.limits.TheConstants.{MAX_BOUND};
 ghost use Rattle.mltl_base.specs.declared.operators.CountOp.{CountOp};
 ghost use Rattle.mltl_base.specs.declared.operators.LogicOp.{LogicOp};
@@ -8,7 +8,8 @@ ghost use Rattle.mltl_base.specs.Atoms.{Row};
 ghost use Rattle.mltl_base.specs.Formula.{Formula};
 ghost use Rattle.mltl_base.specs.Meaning.{count, sat};
 ghost use Rattle.count_sets.specs.Counting.{compares, counting};
-ghost use Rattle.c2po_unfold.specs.Values.{Value, counted_formula, interval, connected_all, weight};
+ghost use Rattle.c2po_unfold.specs.Values.{Value, connected_all, counted, counted_formula, formula_of, interval, joined_formula};
+ghost use Rattle.c2po_unfold.specs.Weights.{counting_weight, weight};
 
 /// A counting quantifier holds at a time exactly where the number of its bodies that hold there compares as it says.
 /// Equal bodies count each.
@@ -20,10 +21,26 @@ pub fn quantifiers_count()
 {}
 
 /// Joined bodies weigh what they weigh, and one more for each operator between them.
-#[tactic(auto, using(crate::proofs::Loops::joined_weight))]
 pub fn joined_bodies_weigh()
     ensures { (op : LogicOp) (bodies : Seq Value)
         → weight (connected_all op bodies) ≡ sum_by weight bodies + (length bodies - 1) }
+{}
+
+/// Counted bodies weigh what they weigh, and what the gates between them and the quantifier's number ask for.
+pub fn counted_bodies_weigh()
+    ensures { (op : CountOp) (m : ℕ) (bodies : Seq Value) → 0 < length bodies
+        → weight (counted op m bodies)
+        ≡ sum_by weight bodies + counting_weight (length bodies) m }
+{}
+
+/// A quantifier over bodies is the formula that joins theirs, or counts them.
+#[tactic(auto, using(crate::proofs::Loops::joined_formulas, crate::proofs::Loops::counted_means))]
+pub fn quantifiers_are_formulas()
+    ensures joined { (op : LogicOp) (bodies : Seq Value)
+        → formula_of (connected_all op bodies) ≡ joined_formula op (map formula_of bodies) }
+    ensures counted { (op : CountOp) (m : ℕ) (bodies : Seq Value) → 0 < length bodies
+        → formula_of (counted op m bodies)
+        ≡ counted_formula (map formula_of bodies) (counting op (length bodies) m) }
 {}
 
 /// An interval in bounds is itself.

@@ -1,8 +1,9 @@
 //! Values of expressions, and what is known of them.
 //!
-//! `value_of` in `specs/Environment.antt` says what an expression unfolds to. [`Unfolding`] holds the meanings of the
-//! names of a specification, and finds of a value its weight, the first fault of its integers and its tenses, without
-//! its nodes. A part that a picked field leaves aside is never visited.
+//! `value_of` in `specs/Environment.antt` says what an expression unfolds to, and `weight` in `specs/Weights.antt` what
+//! that weighs. [`Unfolding`] holds the meanings of the names of a specification, and finds of a value its weight, the
+//! first fault of its integers and its tenses, without its nodes. A part that a picked field leaves aside is never
+//! visited.
 #![tactic(auto)]
 
 pub mod counting;
@@ -11,6 +12,7 @@ pub mod fault;
 pub mod fields;
 pub mod heads;
 pub mod laws;
+pub mod meanings;
 pub mod operators;
 pub mod scope;
 pub mod storing;

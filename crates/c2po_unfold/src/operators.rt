@@ -49,6 +49,16 @@ pub enum Operation<'a> {
     Counted(CountOp, u64, Bodies<'a>),
 }
 
+/// Whether an expression is a number, a Boolean, an operator or a quantifier.
+pub fn is_operator(e: &Expr) -> bool
+    ensures { result ≡ is_operator (shape e.now) }
+{
+    match &e.node {
+        Node::Ref(_) | Node::Build(..) | Node::Group(_) | Node::Pick(..) => false,
+        _ => true,
+    }
+}
+
 impl<'a> Operation<'a> {
     /// What an expression does; of names, structs, sets and picked fields nothing is asked.
     pub fn of(e: &'a Expr) -> Operation<'a>

@@ -1,12 +1,12 @@
 //! The values of definitions.
 
-ghost use Rattle.std.specs.Prelude.{◌≡◌, ◌+◌, ◌<◌, ◌≤◌, sum_by, IfOk, IfErr, OnOk};
+ghost use Rattle.std.specs.Prelude.{◌≡◌, ◌+◌, ◌<◌, ◌≤◌, IfOk, IfErr, OnOk};
 ghost use Rattle.mltl_base.specs.declared.limits.TheConstants.{MAX_WEIGHT};
 ghost use Rattle.c2po_ast.specs.Shape.{shape, shapes};
 ghost use Rattle.c2po_unfold.specs.declared.fault.UnfoldFault.TheVariants.{Heavy};
 ghost use Rattle.c2po_unfold.specs.Environment.{Env, value_of, values_of};
 ghost use Rattle.c2po_unfold.specs.Holding.{Fits, HoldAll, Holds, IsLater};
-ghost use Rattle.c2po_unfold.specs.Values.{list_of, weight};
+ghost use Rattle.c2po_unfold.specs.Weights.{parts_weight, weight};
 
 use crate::fact::Fact;
 use crate::fault::{deeper, less};
@@ -75,10 +75,10 @@ impl Unfolding {
         ensures holds { (env : Env) → Fits self.old at.entry.scope.now env
             → IfOk result (λ r. HoldAll self.new r.0 (values_of (shapes es.now) env)) }
         ensures weight { (env : Env) → Fits self.old at.entry.scope.now env
-            → IfOk result (λ r. r.1 ≡ 1 + sum_by weight (list_of (values_of (shapes es.now) env))) }
+            → IfOk result (λ r. r.1 ≡ 1 + parts_weight (values_of (shapes es.now) env)) }
         ensures heavy { (env : Env) → Fits self.old at.entry.scope.now env
             → IfErr result (λ why. why ≡ Heavy
-            → room < 1 + sum_by weight (list_of (values_of (shapes es.now) env))) }
+            → room < 1 + parts_weight (values_of (shapes es.now) env)) }
     {
         let mut left = less(room, 1)?;
         let mut members = List::new(alloc);

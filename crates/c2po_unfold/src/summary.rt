@@ -1,14 +1,15 @@
 //! What is known of values without their nodes.
 
-ghost use Rattle.std.specs.Prelude.{◌≡◌, ◌+◌, ◌<◌, ◌≤◌, ◌^◌, ℕ, Some, IfOk, IfErr};
-ghost use Rattle.mltl_base.specs.Formula.{falsity};
+ghost use Rattle.std.specs.Prelude.{◌≡◌, ◌+◌, ◌<◌, ◌≤◌, ◌^◌, ℕ, [], ◌∷◌, Some, IfOk, IfErr};
+ghost use Rattle.mltl_base.specs.declared.operators.CountOp.{CountOp};
+ghost use Rattle.mltl_base.specs.declared.operators.LogicOp.{LogicOp};
 ghost use Rattle.c2po_unfold.specs.Facts.{Tells};
-ghost use Rattle.c2po_nodes.specs.Nodes.{Tree, formula};
 ghost use Rattle.c2po_unfold.specs.declared.fault.UnfoldFault.TheVariants.{Heavy};
 ghost use Rattle.c2po_unfold.specs.Environment.{signal_value};
 ghost use Rattle.c2po_unfold.specs.Operators.{binary_value, unary_value};
 ghost use Rattle.c2po_unfold.specs.Summaries.{IsSummary};
-ghost use Rattle.c2po_unfold.specs.Values.{Value, formula_of, leaf, tree_in, weight};
+ghost use Rattle.c2po_unfold.specs.Values.{Leaf, Value, connected_all, counted, leaf, leaf_tree, tree_in};
+ghost use Rattle.c2po_unfold.specs.Weights.{leaf_weight};
 
 use crate::UnfoldFault;
 use crate::fact::Fact;
@@ -27,8 +28,8 @@ impl Summary {
     /// Returns what is known of a number or of a Boolean, which weighs one.
     pub(crate) fn token(fact: Fact, room: u32) -> Result<Summary, UnfoldFault>
         ensures light { IfOk result (λ s. s.weight ≤ room) }
-        ensures holds { (t : Tree) → Tells fact (Some t)
-            → IfOk result (λ s. IsSummary s (leaf t 1)) }
+        ensures holds { (l : Leaf) → leaf_weight l ≡ 1 → Tells fact (Some (leaf_tree l))
+            → IfOk result (λ s. IsSummary s (leaf l)) }
         ensures heavy { IfErr result (λ why. why ≡ Heavy → room < 1) }
     {
         less(room, 1)?;
@@ -38,17 +39,18 @@ impl Summary {
     /// Returns what is known of a quantifier over no member, which is false and weighs nothing.
     pub(crate) fn none() -> Summary
         ensures weight { result.weight ≡ 0 }
-        ensures holds { IsSummary result (leaf (formula falsity) 0) }
+        ensures joined { (op : LogicOp) → IsSummary result (connected_all op []) }
+        ensures counted { (op : CountOp) (number : ℕ) → IsSummary result (counted op number []) }
     {
         let fact = Fact::truth();
         Summary { weight: 0, fact }
     }
 
-    /// Returns what is known of a value as a formula.
+    /// Returns what is known of a value as the only body of a quantifier, which is a formula.
     pub(crate) fn as_formula(&self) -> Summary
         ensures weight { result.weight ≡ self.now.weight }
-        ensures holds { (v : Value) → IsSummary self.now v
-            → IsSummary result (leaf (formula (formula_of v)) (weight v)) }
+        ensures holds { (op : LogicOp) (v : Value) → IsSummary self.now v
+            → IsSummary result (connected_all op (v ∷ [])) }
     {
         let fact = Fact::formula(&self.fact);
         Summary {

@@ -14,12 +14,13 @@ ghost use Rattle.c2po_unfold.specs.Heads.{Heads, is_operator};
 ghost use Rattle.c2po_unfold.specs.Operators.{binary_value, bodies_of, body_value, unary_value};
 ghost use Rattle.c2po_unfold.specs.Holding.{Fits, Holds};
 ghost use Rattle.c2po_unfold.specs.Summaries.{IsSummary, gathered};
-ghost use Rattle.c2po_unfold.specs.Values.{Value, counted, formula_of, connected_all, list_of, members, tree_in, weight};
+ghost use Rattle.c2po_unfold.specs.Values.{Value, counted, formula_of, connected_all, members, tree_in};
+ghost use Rattle.c2po_unfold.specs.Weights.{parts_weight, weight};
 
 use crate::counting::{counted_fact, gates_weight};
 use crate::fact::Fact;
 use crate::fault::{deeper, less};
-use crate::operators::{BinaryOp, Bodies, Operation, UnaryOp};
+use crate::operators::{BinaryOp, Bodies, Operation, UnaryOp, is_operator};
 use crate::scope::{Head, Scope, Site};
 use crate::summary::Summary;
 use crate::values::{Location, Stored};
@@ -113,6 +114,17 @@ impl Unfolding {
             → IfErr result (λ why. why ≡ Heavy → room < weight (value_of (shape e.now) env)) }
     {
         let depth = deeper(at.depth)?;
+        if is_operator(e) {
+            let within = Site {
+                depth,
+                scope: at.scope,
+            };
+            return self.operator(within, e, room);
+        }
+        if let Some(stored) = self.held_value(depth, at.scope, e) {
+            less(room, stored.weight)?;
+            return Ok(self.held(stored));
+        }
         match self.head(depth, at.scope, e)? {
             Head::Nothing(..) => Summary::token(Fact::truth(), room),
             Head::Held(stored) => {
@@ -136,11 +148,10 @@ impl Unfolding {
         ensures light { IfOk result (λ s. s.weight ≤ room) }
         ensures parts { IfOk result (λ s. s.fact ≡ Parts) }
         ensures weight { (env : Env) → Fits self.now at.entry.scope.now env
-            → IfOk result
-            (λ s. s.weight ≡ 1 + sum_by weight (list_of (values_of (shapes es.now) env))) }
+            → IfOk result (λ s. s.weight ≡ 1 + parts_weight (values_of (shapes es.now) env)) }
         ensures heavy { (env : Env) → Fits self.now at.entry.scope.now env
             → IfErr result (λ why. why ≡ Heavy
-            → room < 1 + sum_by weight (list_of (values_of (shapes es.now) env))) }
+            → room < 1 + parts_weight (values_of (shapes es.now) env)) }
     {
         let mut left = less(room, 1)?;
         for e in es {

@@ -1,10 +1,9 @@
 //! Names with what is known of their values.
 
-ghost use Rattle.std.specs.Prelude.{◌≡◌, ◌<◌, ◌≤◌, ℕ, List as Seq, IfOk, IfErr, OnOk, Some, slice_get};
+ghost use Rattle.std.specs.Prelude.{◌≡◌, ◌+◌, ◌<◌, ◌≤◌, ℕ, List as Seq, IfOk, IfErr, OnOk, Some, slice_get};
 ghost use Rattle.mltl_base.specs.declared.limits.TheConstants.{MAX_WEIGHT};
 ghost use Rattle.c2po_ast.specs.Shape.{shape};
 ghost use Rattle.c2po_unfold.specs.Facts.{told_fault};
-ghost use Rattle.c2po_nodes.specs.Nodes.{Tree};
 ghost use Rattle.c2po_unfold.specs.declared.fault.UnfoldFault.TheVariants.{Heavy};
 ghost use Rattle.c2po_unfold.specs.declared.values.Whole.TheVariants.{Struct, Set};
 ghost use Rattle.c2po_unfold.specs.Environment.{Env, Known, declare, fields, no_names, signal_value, value, value_of};
@@ -12,16 +11,18 @@ ghost use Rattle.c2po_unfold.specs.Faults.{value_fault};
 ghost use Rattle.c2po_unfold.specs.Holding.{HoldAll, Holds, IsLater, Means, StandsFor, Weighs};
 ghost use Rattle.c2po_unfold.specs.Parts.{stored_fault};
 ghost use Rattle.c2po_unfold.specs.Summaries.{IsSummary};
-ghost use Rattle.c2po_unfold.specs.Values.{Values, leaf, set, structure, weight};
+ghost use Rattle.c2po_unfold.specs.Values.{Leaf, Values, leaf, set, structure};
+ghost use Rattle.c2po_unfold.specs.Weights.{parts_weight, weight};
 
 use crate::UnfoldFault;
 use crate::fact::{Fact, Tenses, fault_of, first_fault, tenses_of};
 use crate::fields::Fields;
+use crate::meanings::Meanings;
 use crate::scope::{Scope, Site};
 use crate::summary::{Summary, signal_fact};
 use crate::values::{Entry, Location, Parts, Stored, Whole};
 use c2po_ast::Expr;
-use mltl_base::{List, Name, NameTable, NoRange};
+use mltl_base::{List, Name, NoRange};
 use std::alloc::{AllocError, Global};
 
 /// How deep an expression may be nested: deeper than any stack is.
@@ -30,7 +31,7 @@ const DEPTH: u32 = u32::MAX;
 /// The meanings of the names of a specification, with what is known of their values.
 #[derive(Drop)]
 pub struct Unfolding {
-    pub(crate) names: NameTable<Entry>,
+    pub(crate) names: Meanings,
     pub(crate) structs: List<Fields>,
     pub(crate) parts: List<Parts>,
     /// What is known of the integers and the formulas among the values.
@@ -51,7 +52,7 @@ impl Unfolding {
         ensures { StandsFor result no_names }
     {
         Unfolding {
-            names: NameTable::new(alloc),
+            names: Meanings::new(alloc),
             structs: List::new(alloc),
             parts: List::new(alloc),
             facts: List::new(alloc),
@@ -159,8 +160,8 @@ impl Unfolding {
     pub(crate) fn add_leaf(&mut self, summary: Summary) -> Result<Stored, AllocError>
         ensures later { OnOk result (IsLater self.old self.new) }
         ensures weight { IfOk result (λ s. s.weight ≡ summary.weight) }
-        ensures holds { (t : Tree) (w : ℕ) → IsSummary summary (leaf t w)
-            → IfOk result (λ s. Holds self.new s (leaf t w)) }
+        ensures holds { (l : Leaf) → IsSummary summary (leaf l)
+            → IfOk result (λ s. Holds self.new s (leaf l)) }
     {
         let Summary { weight, fact } = summary;
         let place = self.fact_place(fact)?;
@@ -196,10 +197,10 @@ impl Unfolding {
         ensures later { OnOk result (IsLater self.old self.new) }
         ensures weight { IfOk result (λ s. s.weight ≡ weight) }
         ensures structure { (x : Seq ℕ) (vs : Values) → whole ≡ Struct x
-            → HoldAll self.old members vs
-            → IfOk result (λ s. Holds self.new s (structure x vs weight)) }
+            → HoldAll self.old members vs → weight ≡ 1 + parts_weight vs
+            → IfOk result (λ s. Holds self.new s (structure x vs)) }
         ensures set { (vs : Values) → whole ≡ Set → HoldAll self.old members vs
-            → IfOk result (λ s. Holds self.new s (set vs weight)) }
+            → weight ≡ 1 + parts_weight vs → IfOk result (λ s. Holds self.new s (set vs)) }
     {
         let place = next_place(self.parts.len())?;
         let fault = first_of(members.as_slice());

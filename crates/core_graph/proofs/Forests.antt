@@ -42,24 +42,12 @@ remade (since_in i) (Two a b) = Since i a b
 remade _ _ = True
 
 remade_is : (x : Vertex) → remade (label_of x) (operands_of x) ≡ x
-remade_is (Column c) = refl
-remade_is (Const n) = refl
-remade_is (Neg a) = refl
 remade_is (Arith arith_op.TheVariants.Add a b) = refl
 remade_is (Arith arith_op.TheVariants.Sub a b) = refl
 remade_is (Arith arith_op.TheVariants.Mul a b) = refl
 remade_is (Arith arith_op.TheVariants.Div a b) = refl
 remade_is (Arith arith_op.TheVariants.Rem a b) = refl
-remade_is (IsTrue c) = refl
-remade_is (Eq a b) = refl
-remade_is (Lt a b) = refl
-remade_is (Le a b) = refl
-remade_is True = refl
-remade_is (Load a) = refl
-remade_is (Not a) = refl
-remade_is (And a b) = refl
-remade_is (Until i a b) = refl
-remade_is (Since i a b) = refl
+remade_is _ = refl
 
 pub one_vertex : (x y : Vertex) → label_of x ≡ label_of y → operands_of x ≡ operands_of y → x ≡ y
 one_vertex x y e f = sym (remade_is x) ∙ (ap₂ remade e f ∙ remade_is y)
@@ -299,12 +287,9 @@ core_within vertices n h = h.has.within
 -- the operand of a negation is the negation, and another formula is negated by one more vertex
 not_case : (vertices : List Vertex) (b : ℕ) (p : Core) → b < length vertices → one (sign not_sign) (tree_at (trees vertices) b) ≡ of_core p → Has vertices b (of_core (neg p))
 unfolding neg
-not_case vertices b ctrue l e = cc
 not_case vertices b (catom a) l e = let two : sign not_sign ≡ sign load_sign = cc in cc
 not_case vertices b (cnot p) l e = record { within = l; is = cc }
-not_case vertices b (cand p q) l e = cc
-not_case vertices b (cuntil i p q) l e = cc
-not_case vertices b (csince i p q) l e = cc
+not_case vertices b _ l e = cc
 
 pub not_operand : (vertices : List Vertex) (a b : ℕ) → IsForest vertices → slice_get vertices a ≡ Some (Not b) → (p : Core) → Has vertices a (of_core p) → Has vertices b (of_core (neg p))
 not_operand vertices a b f e p h =
@@ -319,10 +304,7 @@ neg_case vertices new a n (cnot p) f other h g =
     let same : get_or vertices a True ≡ Not q.operand = one_vertex (get_or vertices a True) (Not q.operand) q.label q.operands in
     absurd (other q.operand (vertex_there vertices a h.within ∙ ap Some same))
 neg_case vertices new a n ctrue f other h g = g
-neg_case vertices new a n (catom b) f other h g = g
-neg_case vertices new a n (cand p q) f other h g = g
-neg_case vertices new a n (cuntil i p q) f other h g = g
-neg_case vertices new a n (csince i p q) f other h g = g
+neg_case vertices new a n _ f other h g = g
 
 pub not_added : (vertices new : List Vertex) (a n : ℕ) → IsForest vertices → ((b : ℕ) → slice_get vertices a ≡ Some (Not b) → ⊥) → Has new n (one (sign not_sign) (tree_at (trees vertices) a)) →
     (p : Core) → Has vertices a (of_core p) → Has new n (of_core (neg p))

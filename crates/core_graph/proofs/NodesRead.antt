@@ -29,40 +29,26 @@ use Rattle.core_graph.proofs.Outputs.{number_there, formula_there}
 arithmetic_over : (columns : List ℕ) (op : arith_op.ArithOp) (a b : Term) → term_over columns (plain.arithmetic op a b) ≡ plain.arithmetic op (term_over columns a) (term_over columns b)
 unfolding term_over
 arithmetic_over columns arith_op.TheVariants.Add a b = refl
-arithmetic_over columns arith_op.TheVariants.Sub a b = refl
-arithmetic_over columns arith_op.TheVariants.Mul a b = refl
-arithmetic_over columns arith_op.TheVariants.Div a b = refl
-arithmetic_over columns arith_op.TheVariants.Rem a b = refl
+arithmetic_over columns _ a b = refl
 
 arithmetic_image : (op : arith_op.ArithOp) (a b : Term) → of_term (plain.arithmetic op a b) ≡ two (sign (arith_sign op)) (of_term a) (of_term b)
 arithmetic_image arith_op.TheVariants.Add a b = refl
-arithmetic_image arith_op.TheVariants.Sub a b = refl
-arithmetic_image arith_op.TheVariants.Mul a b = refl
-arithmetic_image arith_op.TheVariants.Div a b = refl
-arithmetic_image arith_op.TheVariants.Rem a b = refl
+arithmetic_image _ a b = refl
 
 comparison_over : (columns : List ℕ) (op : compare.CompareOp) (a b : Term) → atom_over columns (plain.comparison op a b) ≡ plain.comparison op (term_over columns a) (term_over columns b)
 unfolding atom_over
 comparison_over columns compare.TheVariants.Eq a b = refl
-comparison_over columns compare.TheVariants.Ne a b = refl
-comparison_over columns compare.TheVariants.Lt a b = refl
-comparison_over columns compare.TheVariants.Le a b = refl
-comparison_over columns compare.TheVariants.Gt a b = refl
-comparison_over columns compare.TheVariants.Ge a b = refl
+comparison_over columns _ a b = refl
 
 connected_over : (columns : List ℕ) (op : logic.LogicOp) (p q : Formula) → formula_over columns (plain.connected op p q) ≡ plain.connected op (formula_over columns p) (formula_over columns q)
 unfolding formula_over
 connected_over columns logic.TheVariants.And p q = refl
-connected_over columns logic.TheVariants.Or p q = refl
-connected_over columns logic.TheVariants.Implies p q = refl
-connected_over columns logic.TheVariants.Iff p q = refl
+connected_over columns _ p q = refl
 
 windowed_over : (columns : List ℕ) (op : window.WindowOp) (i : Interval) (p : Formula) → formula_over columns (plain.windowed op i p) ≡ plain.windowed op i (formula_over columns p)
 unfolding formula_over
 windowed_over columns window.TheVariants.F i p = refl
-windowed_over columns window.TheVariants.G i p = refl
-windowed_over columns window.TheVariants.O i p = refl
-windowed_over columns window.TheVariants.H i p = refl
+windowed_over columns _ i p = refl
 
 ranged_over : (columns : List ℕ) (op : between.BetweenOp) (i : Interval) (p q : Formula) → formula_over columns (plain.ranged op i p q) ≡ plain.ranged op i (formula_over columns p) (formula_over columns q)
 unfolding formula_over

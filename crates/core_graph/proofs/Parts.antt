@@ -58,11 +58,7 @@ other_added part t ts e = go (listed same_tree t ts)
 -- core formulas
 pub core_within : (p : Core) → is_core_tree (of_core p) ≡ true
 core_within ctrue = refl
-core_within (catom a) = refl
-core_within (cnot p) = refl
-core_within (cand p q) = refl
-core_within (cuntil i p q) = refl
-core_within (csince i p q) = refl
+core_within _ = refl
 
 term_outside : (a : Term) (ts : List LabelTree) → filter is_core_tree (add_tree (of_term a) ts) ≡ filter is_core_tree ts
 unfolding add_tree
@@ -111,22 +107,11 @@ is_expression_tree t = not (is_core_tree t)
 
 term_within : (a : Term) → is_expression_tree (of_term a) ≡ true
 term_within (column c) = refl
-term_within (constant n) = refl
-term_within (negative a) = refl
-term_within (plus a b) = refl
-term_within (minus a b) = refl
-term_within (times a b) = refl
-term_within (quotient a b) = refl
-term_within (remainder a b) = refl
+term_within _ = refl
 
 atom_within : (a : Atom) → is_expression_tree (of_atom a) ≡ true
 atom_within (is_true c) = refl
-atom_within (equal a b) = refl
-atom_within (less a b) = refl
-atom_within (at_most a b) = refl
-atom_within (different a b) = refl
-atom_within (greater a b) = refl
-atom_within (at_least a b) = refl
+atom_within _ = refl
 
 pub expression_within : (e : Expression) → is_expression_tree (of_expression e) ≡ true
 expression_within (whole a) = term_within a

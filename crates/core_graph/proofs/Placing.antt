@@ -93,24 +93,12 @@ is_had (sign s) = not (nat_lt 8 (sign_number s)) || nat_lt 11 (sign_number s)
 is_had _ = true
 
 all_had : (x : Vertex) → is_had (label_of x) ≡ true
-all_had (Column c) = refl
-all_had (Const n) = refl
-all_had (Neg a) = refl
 all_had (Arith arith_op.TheVariants.Add a b) = refl
 all_had (Arith arith_op.TheVariants.Sub a b) = refl
 all_had (Arith arith_op.TheVariants.Mul a b) = refl
 all_had (Arith arith_op.TheVariants.Div a b) = refl
 all_had (Arith arith_op.TheVariants.Rem a b) = refl
-all_had (IsTrue c) = refl
-all_had (Eq a b) = refl
-all_had (Lt a b) = refl
-all_had (Le a b) = refl
-all_had True = refl
-all_had (Load a) = refl
-all_had (Not a) = refl
-all_had (And a b) = refl
-all_had (Until i a b) = refl
-all_had (Since i a b) = refl
+all_had _ = refl
 
 none_of : (vertices : List Vertex) (n : ℕ) (l : Label) (t u : LabelTree) → is_had l ≡ false → IsForest vertices → Has vertices n (two l t u) → ⊥
 none_of vertices n l t u e f h =

@@ -37,10 +37,6 @@ formula_inside ts a h = go (slice_get ts a) refl h
     go (Some t) e h = slice_get_within ts a t e
 
 formed_below : (signals : ℕ) (ts : List Tree) (node : Plain) → IsFormed signals ts node → OperandsAreBelow (length ts) (node_operands node)
-formed_below signals ts (Truth v) h = tt
-formed_below signals ts (Flag s) h = tt
-formed_below signals ts (Number n) h = tt
-formed_below signals ts (Signal s) h = tt
 formed_below signals ts (Minus a) h = number_inside ts a h
 formed_below signals ts (Arith op a b) h = (number_inside ts a h.0, number_inside ts b h.1)
 formed_below signals ts (Compare op a b) h = (number_inside ts a h.0, number_inside ts b h.1)
@@ -48,6 +44,7 @@ formed_below signals ts (Not a) h = formula_inside ts a h
 formed_below signals ts (Logic op a b) h = (formula_inside ts a h.0, formula_inside ts b h.1)
 formed_below signals ts (Window op i a) h = formula_inside ts a h.1
 formed_below signals ts (Between op i a b) h = (formula_inside ts a h.1, formula_inside ts b h.2)
+formed_below signals ts _ h = tt
 
 count_before : (nodes : List Plain) (i : ℕ) → i ≤ length nodes → length (trees (take i nodes)) ≡ i
 count_before nodes i l = length-trees (take i nodes) ∙ length-take-le i nodes l
@@ -69,10 +66,6 @@ outs_below nodes outs h = λ k d l. out_below nodes (get_or outs k d) (h k d l)
 
 -- a node over other nodes, whose operands unfold to the same
 same_tree : (node : Plain) (ts us : List Tree) → ((n : ℕ) → IsOperand n (node_operands node) → slice_get ts n ≡ slice_get us n) → tree_of ts node ≡ tree_of us node
-same_tree (Truth v) ts us h = refl
-same_tree (Flag s) ts us h = refl
-same_tree (Number n) ts us h = refl
-same_tree (Signal s) ts us h = refl
 same_tree (Minus a) ts us h = ap (λ o. number (negative (term_in o))) (h a refl)
 same_tree (Arith op a b) ts us h = ap₂ (λ o p. number (arithmetic op (term_in o) (term_in p))) (h a (inl refl)) (h b (inr refl))
 same_tree (Compare op a b) ts us h = ap₂ (λ o p. formula (atom (comparison op (term_in o) (term_in p)))) (h a (inl refl)) (h b (inr refl))
@@ -80,12 +73,9 @@ same_tree (Not a) ts us h = ap (λ o. formula (negation (formula_in o))) (h a re
 same_tree (Logic op a b) ts us h = ap₂ (λ o p. formula (connected op (formula_in o) (formula_in p))) (h a (inl refl)) (h b (inr refl))
 same_tree (Window op i a) ts us h = ap (λ o. formula (windowed op i (formula_in o))) (h a refl)
 same_tree (Between op i a b) ts us h = ap₂ (λ o p. formula (ranged op i (formula_in o) (formula_in p))) (h a (inl refl)) (h b (inr refl))
+same_tree _ ts us h = refl
 
 same_formed : (signals : ℕ) (node : Plain) (ts us : List Tree) → ((n : ℕ) → IsOperand n (node_operands node) → slice_get ts n ≡ slice_get us n) → IsFormed signals ts node → IsFormed signals us node
-same_formed signals (Truth v) ts us h f = f
-same_formed signals (Flag s) ts us h f = f
-same_formed signals (Number n) ts us h f = f
-same_formed signals (Signal s) ts us h f = f
 same_formed signals (Minus a) ts us h f = subst IsNumber (h a refl) f
 same_formed signals (Arith op a b) ts us h f = (subst IsNumber (h a (inl refl)) f.0, subst IsNumber (h b (inr refl)) f.1)
 same_formed signals (Compare op a b) ts us h f = (subst IsNumber (h a (inl refl)) f.0, subst IsNumber (h b (inr refl)) f.1)
@@ -93,6 +83,7 @@ same_formed signals (Not a) ts us h f = subst IsFormula (h a refl) f
 same_formed signals (Logic op a b) ts us h f = (subst IsFormula (h a (inl refl)) f.0, subst IsFormula (h b (inr refl)) f.1)
 same_formed signals (Window op i a) ts us h f = (f.0, subst IsFormula (h a refl) f.1)
 same_formed signals (Between op i a b) ts us h f = (f.0, subst IsFormula (h a (inl refl)) f.1, subst IsFormula (h b (inr refl)) f.2)
+same_formed signals _ ts us h f = f
 
 get_front : (ts : List Tree) (t : Tree) (a : ℕ) → a < length ts → slice_get (ts ++ t ∷ []) a ≡ slice_get ts a
 get_front ts t a l =

@@ -110,22 +110,11 @@ is_whole_label _ = false
 
 whole_term : (a : Term) → is_whole_label (root (of_term a)) ≡ true
 whole_term (column c) = refl
-whole_term (constant n) = refl
-whole_term (negative a) = refl
-whole_term (plus a b) = refl
-whole_term (minus a b) = refl
-whole_term (times a b) = refl
-whole_term (quotient a b) = refl
-whole_term (remainder a b) = refl
+whole_term _ = refl
 
 no_whole_atom : (a : Atom) → is_whole_label (root (of_atom a)) ≡ false
 no_whole_atom (is_true c) = refl
-no_whole_atom (equal a b) = refl
-no_whole_atom (less a b) = refl
-no_whole_atom (at_most a b) = refl
-no_whole_atom (different a b) = refl
-no_whole_atom (greater a b) = refl
-no_whole_atom (at_least a b) = refl
+no_whole_atom _ = refl
 
 pub not_same : (f : LabelTree → Bool) (t u : LabelTree) → f t ≡ true → f u ≡ false → same_tree t u ≡ false
 not_same f t u e n = go (same_tree t u) refl

@@ -113,9 +113,7 @@ operands_whole (is_true c) es k h = (h, tt)
 operands_whole (equal a b) es k h = (terms_whole b _ (terms_whole a es h), both_have a b es)
 operands_whole (less a b) es k h = (terms_whole b _ (terms_whole a es h), both_have a b es)
 operands_whole (at_most a b) es k h = (terms_whole b _ (terms_whole a es h), both_have a b es)
-operands_whole (different a b) es k h = absurd k
-operands_whole (greater a b) es k h = absurd k
-operands_whole (at_least a b) es k h = absurd k
+operands_whole _ es k h = absurd k
 
 pub expressions_keep : (p : Core) (d : Expression) (es : List Expression) → HasExpression es d → HasExpression (add_expressions p es) d
 unfolding add_expressions
@@ -149,21 +147,19 @@ term_at_place a before rest h =
     ) refl
 
 expression_unfolds : (before rest : List Expression) (e : Expression) → HasParts before e → expression_of before (bz_instruction (before ++ rest) e) ≡ e
-expression_unfolds before rest (whole (column c)) h = refl
-expression_unfolds before rest (whole (constant n)) h = refl
 expression_unfolds before rest (whole (negative a)) h = ap (λ x. whole (negative x)) (term_at_place a before rest h)
 expression_unfolds before rest (whole (plus a b)) h = ap₂ (λ x y. whole (plus x y)) (term_at_place a before rest h.0) (term_at_place b before rest h.1)
 expression_unfolds before rest (whole (minus a b)) h = ap₂ (λ x y. whole (minus x y)) (term_at_place a before rest h.0) (term_at_place b before rest h.1)
 expression_unfolds before rest (whole (times a b)) h = ap₂ (λ x y. whole (times x y)) (term_at_place a before rest h.0) (term_at_place b before rest h.1)
 expression_unfolds before rest (whole (quotient a b)) h = ap₂ (λ x y. whole (quotient x y)) (term_at_place a before rest h.0) (term_at_place b before rest h.1)
 expression_unfolds before rest (whole (remainder a b)) h = ap₂ (λ x y. whole (remainder x y)) (term_at_place a before rest h.0) (term_at_place b before rest h.1)
-expression_unfolds before rest (truth (is_true c)) h = refl
 expression_unfolds before rest (truth (equal a b)) h = ap₂ (λ x y. truth (equal x y)) (term_at_place a before rest h.0) (term_at_place b before rest h.1)
 expression_unfolds before rest (truth (less a b)) h = ap₂ (λ x y. truth (less x y)) (term_at_place a before rest h.0) (term_at_place b before rest h.1)
 expression_unfolds before rest (truth (at_most a b)) h = ap₂ (λ x y. truth (at_most x y)) (term_at_place a before rest h.0) (term_at_place b before rest h.1)
 expression_unfolds before rest (truth (different a b)) h = absurd h
 expression_unfolds before rest (truth (greater a b)) h = absurd h
 expression_unfolds before rest (truth (at_least a b)) h = absurd h
+expression_unfolds before rest _ h = refl
 
 bz_after : (all before es : List Expression) → all ≡ before ++ es → IsWholeAfter before es → expressions_after before (map (bz_instruction all) es) ≡ before ++ es
 unfolding expressions_after

@@ -72,13 +72,10 @@ past_at_once (conjunction p q) o = rw (past_at_once p o.0, past_at_once q o.1) r
 past_at_once (disjunction p q) o = rw (past_at_once p o.0, past_at_once q o.1) refl
 past_at_once (implication p q) o = rw (past_at_once p o.0, past_at_once q o.1) refl
 past_at_once (equivalence p q) o = rw (past_at_once p o.0, past_at_once q o.1) refl
-past_at_once (finally i p) o = absurd o
-past_at_once (globally i p) o = absurd o
-past_at_once (until i p q) o = absurd o
-past_at_once (release i p q) o = absurd o
 past_at_once (once i p) o = past_at_once p o
 past_at_once (historically i p) o = past_at_once p o
 past_at_once (since i p q) o = rw (past_at_once p o.0, past_at_once q o.1) refl
+past_at_once _ o = absurd o
 
 pub past_known : (rows : List Row) (p : Formula) → IsPast p → (t : ℕ) → t < length rows → slice_get (verdicts rows p) t ≡ Some (sat rows p t)
 past_known rows p o t l = let e : wpd p ≡ 0 = past_at_once p o in verdict_known rows p t (omega arith)

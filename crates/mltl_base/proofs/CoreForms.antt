@@ -11,22 +11,13 @@ use Rattle.mltl_base.proofs.Tenses.{core_ordered}
 
 neg_reduced : (p : Core) → IsReduced p → IsReduced (neg p)
 unfolding neg IsReduced
-neg_reduced ctrue h = (tt, h)
-neg_reduced (catom a) h = (tt, h)
 neg_reduced (cnot p) h = h.1
-neg_reduced (cand p q) h = (tt, h)
-neg_reduced (cuntil i p q) h = (tt, h)
-neg_reduced (csince i p q) h = (tt, h)
+neg_reduced _ h = (tt, h)
 
 atom_reduced : (a : Atom) → IsReduced (core_atom a)
 unfolding IsReduced
-atom_reduced (is_true c) = tt
-atom_reduced (equal a b) = tt
-atom_reduced (less a b) = tt
-atom_reduced (at_most a b) = tt
 atom_reduced (different a b) = (tt, tt)
-atom_reduced (greater a b) = tt
-atom_reduced (at_least a b) = tt
+atom_reduced _ = tt
 
 pub core_reduced : (p : Formula) → IsReduced (core p)
 unfolding core IsReduced
@@ -53,21 +44,14 @@ core_reduced (since i p q) = (core_reduced p, core_reduced q)
 
 neg_of_other : (p : Core) → IsNoNegation p → neg p ≡ cnot p
 unfolding neg
-neg_of_other ctrue h = refl
-neg_of_other (catom a) h = refl
 neg_of_other (cnot p) h = absurd h
-neg_of_other (cand p q) h = refl
-neg_of_other (cuntil i p q) h = refl
-neg_of_other (csince i p q) h = refl
+neg_of_other _ h = refl
 
 same_atom_form : (a : Atom) → IsCoreAtom a → core_atom a ≡ catom a
-same_atom_form (is_true c) h = refl
-same_atom_form (equal a b) h = refl
-same_atom_form (less a b) h = refl
-same_atom_form (at_most a b) h = refl
 same_atom_form (different a b) h = absurd h
 same_atom_form (greater a b) h = absurd h
 same_atom_form (at_least a b) h = absurd h
+same_atom_form _ h = refl
 
 pub core_stays : (p : Core) → IsReduced p → core (plain p) ≡ p
 unfolding core plain IsReduced

@@ -50,22 +50,13 @@ every_core (suc n) f g h = ap (λ v. not (some_below n f || v)) (h n) ∙ (nor (
 
 pub neg_sat : (rows : List Row) (p : Core) (t : ℕ) → sat rows (plain (neg p)) t ≡ not (sat rows (plain p) t)
 unfolding sat plain neg
-neg_sat rows ctrue t = refl
-neg_sat rows (catom a) t = refl
 neg_sat rows (cnot p) t = sym (not_not (sat rows (plain p) t))
-neg_sat rows (cand p q) t = refl
-neg_sat rows (cuntil i p q) t = refl
-neg_sat rows (csince i p q) t = refl
+neg_sat rows _ t = refl
 
 atom_sat : (rows : List Row) (a : Atom) (t : ℕ) → sat rows (plain (core_atom a)) t ≡ sat rows (atom a) t
 unfolding sat plain holds
 atom_sat rows (is_true c) t = refl
-atom_sat rows (equal a b) t = refl
-atom_sat rows (less a b) t = refl
-atom_sat rows (at_most a b) t = refl
-atom_sat rows (different a b) t = refl
-atom_sat rows (greater a b) t = refl
-atom_sat rows (at_least a b) t = refl
+atom_sat rows _ t = refl
 
 until_true : (i : Interval) (f : ℕ → Bool) (t : ℕ) → until_at i (λ s. true) f t ≡ some_in i.lo (suc i.hi) (λ k. f (t + k))
 until_true i f t = ap (some_below (suc i.hi - i.lo)) (fun_ext (λ k. ap (λ v. f (t + (i.lo + k)) && v) (every_true (i.lo + k - i.lo)) ∙ and-true (f (t + (i.lo + k)))))
@@ -113,21 +104,12 @@ core_sat rows (since i p q) t = ap₂ (λ f g. since_at i f g t) (fun_ext (λ s.
 neg_wpd : (p : Core) → wpd (plain (neg p)) ≡ wpd (plain p)
 unfolding wpd plain neg
 neg_wpd ctrue = refl
-neg_wpd (catom a) = refl
-neg_wpd (cnot p) = refl
-neg_wpd (cand p q) = refl
-neg_wpd (cuntil i p q) = refl
-neg_wpd (csince i p q) = refl
+neg_wpd _ = refl
 
 atom_wpd : (a : Atom) → wpd (plain (core_atom a)) ≡ 0
 unfolding wpd plain
 atom_wpd (is_true c) = refl
-atom_wpd (equal a b) = refl
-atom_wpd (less a b) = refl
-atom_wpd (at_most a b) = refl
-atom_wpd (different a b) = refl
-atom_wpd (greater a b) = refl
-atom_wpd (at_least a b) = refl
+atom_wpd _ = refl
 
 max_zero : (n : ℕ) → max 0 n ≡ n
 max_zero n = omega arith

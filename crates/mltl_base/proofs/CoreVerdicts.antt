@@ -203,13 +203,8 @@ not_test f g rows h =
 
 core_atom_verdicts : (rows : List Row) (a : Atom) → verdicts rows (plain (core_atom a)) ≡ verdicts rows (atom a)
 unfolding verdicts kleene_over plain holds
-core_atom_verdicts rows (is_true c) = refl
-core_atom_verdicts rows (equal a b) = refl
-core_atom_verdicts rows (less a b) = refl
-core_atom_verdicts rows (at_most a b) = refl
 core_atom_verdicts rows (different a b) = not_test (holds (equal a b)) (holds (different a b)) rows (λ r. refl)
-core_atom_verdicts rows (greater a b) = refl
-core_atom_verdicts rows (at_least a b) = refl
+core_atom_verdicts rows _ = refl
 
 pub core_verdicts : (rows : List Row) (p : Formula) → verdicts rows (plain (core p)) ≡ verdicts rows p
 unfolding core verdicts kleene_over plain k_or

@@ -129,10 +129,7 @@ same_word_true Verified Invalid e = cc
 
 pub same_word_self : (w : Word) → same_word w w ≡ true
 same_word_self T = refl
-same_word_self F = refl
-same_word_self Inactive = refl
-same_word_self Invalid = refl
-same_word_self Verified = refl
+same_word_self _ = refl
 
 tells_as : (k s e f : ℕ) (us vs : List Word) (rs : List Report) → e ≡ f → us ≡ vs → Tells k s e us rs → Tells k s f vs rs
 tells_as k s e f us vs rs p q h = record { tells = h.tells ∙ q; ends = h.ends ∙ p; rising = h.rising }

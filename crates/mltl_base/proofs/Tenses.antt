@@ -99,10 +99,7 @@ core_past (equivalence p q) o = (
 core_past (once i p) o = (tt, tt, core_past p o)
 core_past (historically i p) o = neg_deep NotUntil (csince i ctrue (neg (core p))) (λ q. tt) (tt, tt, neg_deep NotUntil (core p) (λ q. tt) (core_past p o))
 core_past (since i p q) o = (tt, core_past p o.0, core_past q o.1)
-core_past (finally i p) o = absurd o
-core_past (globally i p) o = absurd o
-core_past (until i p q) o = absurd o
-core_past (release i p q) o = absurd o
+core_past _ o = absurd o
 
 -- a core formula without the other tense is of its tense as a formula too
 plain_future : (p : Core) → Deep NotSince p → IsFuture (plain p)
@@ -133,21 +130,12 @@ core_stays_past p o = plain_past (core p) (core_past p o)
 neg_ordered : (p : Core) → IsOrdered (plain p) → IsOrdered (plain (neg p))
 unfolding plain neg
 neg_ordered ctrue h = h
-neg_ordered (catom a) h = h
-neg_ordered (cnot p) h = h
-neg_ordered (cand p q) h = h
-neg_ordered (cuntil i p q) h = h
-neg_ordered (csince i p q) h = h
+neg_ordered _ h = h
 
 atom_ordered : (a : Atom) → IsOrdered (plain (core_atom a))
 unfolding plain
 atom_ordered (is_true c) = tt
-atom_ordered (equal a b) = tt
-atom_ordered (less a b) = tt
-atom_ordered (at_most a b) = tt
-atom_ordered (different a b) = tt
-atom_ordered (greater a b) = tt
-atom_ordered (at_least a b) = tt
+atom_ordered _ = tt
 
 pub core_ordered : (p : Formula) → IsOrdered p → IsOrdered (plain (core p))
 unfolding plain core

@@ -156,13 +156,10 @@ simp_past (conjunction p q) h = and_has {P = IsPast} past (simp p) (simp q) (sim
 simp_past (disjunction p q) h = or_has {P = IsPast} past (simp p) (simp q) (simp_past p h.0) (simp_past q h.1)
 simp_past (implication p q) h = implies_has {P = IsPast} past (simp p) (simp q) (simp_past p h.0) (simp_past q h.1)
 simp_past (equivalence p q) h = equals_has {P = IsPast} past (simp p) (simp q) (simp_past p h.0) (simp_past q h.1)
-simp_past (finally j p) h = absurd h
-simp_past (globally j p) h = absurd h
-simp_past (until j p q) h = absurd h
-simp_past (release j p q) h = absurd h
 simp_past (once i p) h = once_cases (λ x y. IsPast x → IsPast y) i (λ k. tt) (λ j z l k. k) (λ x k. k) (simp p) (simp_past p h)
 simp_past (historically i p) h = historically_cases (λ x y. IsPast x → IsPast y) i (λ k. tt) (λ j z l k. k) (λ x k. k) (simp p) (simp_past p h)
 simp_past (since i p q) h = unless_false_has {P = IsPast} past (as_truth (simp q)) (since i (simp p) (simp q)) (simp_past p h.0, simp_past q h.1)
+simp_past _ h = absurd h
 
 future : IsPlain IsFuture
 future = record {
@@ -190,9 +187,7 @@ simp_future (finally i p) h = finally_cases (λ x y. IsFuture x → IsFuture y) 
 simp_future (globally i p) h = globally_cases (λ x y. IsFuture x → IsFuture y) i (λ k. tt) (λ k. tt) (λ j z l k. k) (λ x k. k) (simp p) (simp_future p h)
 simp_future (until i p q) h = unless_truth_has {P = IsFuture} future (as_truth (simp q)) (until i (simp p) (simp q)) (simp_future p h.0, simp_future q h.1)
 simp_future (release i p q) h = unless_truth_has {P = IsFuture} future (as_truth (simp q)) (release i (simp p) (simp q)) (simp_future p h.0, simp_future q h.1)
-simp_future (once j p) h = absurd h
-simp_future (historically j p) h = absurd h
-simp_future (since j p q) h = absurd h
+simp_future _ h = absurd h
 
 -- ---- atoms
 

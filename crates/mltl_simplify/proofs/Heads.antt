@@ -57,10 +57,6 @@ unfolding as_truth head_of node_head is_not node_truth node_is_not
 tells ts (node.Truth true) p e = by_same (node.Truth true) truth p e (record { truth = refl; window = refl; negation = refl })
 tells ts (node.Truth false) p e = by_same (node.Truth false) falsity p e (record { truth = refl; window = refl; negation = refl })
 tells ts (node.Flag s) p e = by_same (node.Flag s) _ p e (record { truth = refl; window = refl; negation = refl })
-tells ts (node.Number n) p e = absurd (cc)
-tells ts (node.Signal s) p e = absurd (cc)
-tells ts (node.Minus a) p e = absurd (cc)
-tells ts (node.Arith op a b) p e = absurd (cc)
 tells ts (node.Compare op a b) p e = by_same (node.Compare op a b) _ p e (record { truth = refl; window = refl; negation = refl })
 tells ts (node.Not a) p e = by_same (node.Not a) _ p e (record { truth = refl; window = refl; negation = refl })
 tells ts (node.Logic logic.And a b) p e = by_same (node.Logic logic.And a b) _ p e (record { truth = refl; window = refl; negation = refl })
@@ -74,6 +70,7 @@ tells ts (node.Window window.H i a) p e = by_same (node.Window window.H i a) _ p
 tells ts (node.Between between.U i a b) p e = by_same (node.Between between.U i a b) _ p e (record { truth = refl; window = refl; negation = refl })
 tells ts (node.Between between.R i a b) p e = by_same (node.Between between.R i a b) _ p e (record { truth = refl; window = refl; negation = refl })
 tells ts (node.Between between.S i a b) p e = by_same (node.Between between.S i a b) _ p e (record { truth = refl; window = refl; negation = refl })
+tells ts _ p e = absurd (cc)
 
 -- ---- truths
 
@@ -84,16 +81,7 @@ truth_told ts v p e = sym (tells ts (node.Truth v) p e).truth
 no_truth : (n : Plain) → ((v : Bool) → n ≡ node.Truth v → ⊥) → node_truth n ≡ None
 unfolding node_truth
 no_truth (node.Truth v) h = absurd (h v refl)
-no_truth (node.Flag s) h = refl
-no_truth (node.Number n) h = refl
-no_truth (node.Signal s) h = refl
-no_truth (node.Minus a) h = refl
-no_truth (node.Arith op a b) h = refl
-no_truth (node.Compare op a b) h = refl
-no_truth (node.Not a) h = refl
-no_truth (node.Logic op a b) h = refl
-no_truth (node.Window op i a) h = refl
-no_truth (node.Between op i a b) h = refl
+no_truth _ h = refl
 
 pub none_told : (ts : List Tree) (n : Plain) (p : Formula) → tree_of ts n ≡ formula p → ((v : Bool) → n ≡ node.Truth v → ⊥) → None ≡ as_truth p
 none_told ts n p e h = sym ((tells ts n p e).truth ∙ no_truth n h)
@@ -114,32 +102,12 @@ unfolding simple_not as_truth is_not
 other_not truth h k = absurd (cc)
 other_not falsity h k = absurd (cc)
 other_not (negation p) h k = absurd (cc)
-other_not (atom a) h k = refl
-other_not (conjunction p q) h k = refl
-other_not (disjunction p q) h k = refl
-other_not (implication p q) h k = refl
-other_not (equivalence p q) h k = refl
-other_not (finally i p) h k = refl
-other_not (globally i p) h k = refl
-other_not (until i p q) h k = refl
-other_not (release i p q) h k = refl
-other_not (once i p) h k = refl
-other_not (historically i p) h k = refl
-other_not (since i p q) h k = refl
+other_not _ h k = refl
 
 no_not : (n : Plain) → ((z : ℕ) → n ≡ node.Not z → ⊥) → node_is_not n ≡ false
 unfolding node_is_not
 no_not (node.Not a) h = absurd (h a refl)
-no_not (node.Truth v) h = refl
-no_not (node.Flag s) h = refl
-no_not (node.Number n) h = refl
-no_not (node.Signal s) h = refl
-no_not (node.Minus a) h = refl
-no_not (node.Arith op a b) h = refl
-no_not (node.Compare op a b) h = refl
-no_not (node.Logic op a b) h = refl
-no_not (node.Window op i a) h = refl
-no_not (node.Between op i a b) h = refl
+no_not _ h = refl
 
 pub not_other : (ts : List Tree) (n : Plain) (p : Formula) → tree_of ts n ≡ formula p → ((v : Bool) → n ≡ node.Truth v → ⊥) → ((z : ℕ) → n ≡ node.Not z → ⊥) → negation p ≡ simple_not p
 not_other ts n p e h k = other_not p ((tells ts n p e).truth ∙ no_truth n h) ((tells ts n p e).negation ∙ no_not n k)
@@ -228,9 +196,7 @@ window_keeps op i v p h k = let same : p ≡ of_truth v = truth_is p v (sym h) i
 head_windowed : (op : WindowOp) (i : Interval) (p : Formula) → head_of (windowed op i p) ≡ Some op
 unfolding head_of
 head_windowed window.F i p = refl
-head_windowed window.G i p = refl
-head_windowed window.O i p = refl
-head_windowed window.H i p = refl
+head_windowed _ i p = refl
 
 apart : (op : WindowOp) (i : Interval) (p : Formula) → KeepsNone op (as_truth p) → ((j : Interval) (q : Formula) → p ≡ windowed op j q → ⊥) → windowed op i p ≡ simple_window op i p
 unfolding as_truth
@@ -252,16 +218,7 @@ window_stays ts op i n p e k h =
 no_window : (op : WindowOp) (n : Plain) → ((inner : WindowOp) (j : Interval) (z : ℕ) → n ≡ node.Window inner j z → ⊥) → node_head n ≡ Some op → ⊥
 unfolding node_head
 no_window op (node.Window inner j z) h e = h inner j z refl
-no_window op (node.Truth v) h e = cc
-no_window op (node.Not a) h e = cc
-no_window op (node.Flag s) h e = cc
-no_window op (node.Number n) h e = cc
-no_window op (node.Signal s) h e = cc
-no_window op (node.Minus a) h e = cc
-no_window op (node.Arith o a b) h e = cc
-no_window op (node.Compare o a b) h e = cc
-no_window op (node.Logic o a b) h e = cc
-no_window op (node.Between o i a b) h e = cc
+no_window op _ h e = cc
 
 pub window_over_none : (ts : List Tree) (op : WindowOp) (i : Interval) (n : Plain) (p : Formula) → tree_of ts n ≡ formula p → KeepsNone op (as_truth p) →
     ((inner : WindowOp) (j : Interval) (z : ℕ) → n ≡ node.Window inner j z → ⊥) → windowed op i p ≡ simple_window op i p
@@ -275,9 +232,7 @@ window_over_other ts op inner i j z p e k h = window_stays ts op i (node.Window 
 over : (op : WindowOp) (i j : Interval) (q : Formula) → simple_window op i (windowed op j q) ≡ if_joined i j (windowed op (summed_interval i j) q) (windowed op i (windowed op j q))
 unfolding simple_finally simple_globally simple_once simple_historically
 over window.F i j q = refl
-over window.G i j q = refl
-over window.O i j q = refl
-over window.H i j q = refl
+over _ i j q = refl
 
 -- what the joined interval tells of the limit
 taken : (b : Bool) (whole one : Interval) → Some whole ≡ (if b then Some one else None) → (b ≡ true) × (whole ≡ one)

@@ -56,27 +56,19 @@ by_divisor f a b h =
 
 can_divide : (op : arith.ArithOp) (a b : Term) → term_fault (arithmetic op a b) ≡ None → CanDivideBy op (value b [])
 unfolding range
-can_divide arith.TheVariants.Add a b h = tt
-can_divide arith.TheVariants.Sub a b h = tt
-can_divide arith.TheVariants.Mul a b h = tt
 can_divide arith.TheVariants.Div a b h = by_divisor divided a b h
 can_divide arith.TheVariants.Rem a b h = by_divisor left_over a b h
+can_divide _ a b h = tt
 
 value_by : (op : arith.ArithOp) (a b : Term) → value (arithmetic op a b) [] ≡ computed_number op (value a []) (value b [])
 unfolding value
 value_by arith.TheVariants.Add a b = refl
-value_by arith.TheVariants.Sub a b = refl
-value_by arith.TheVariants.Mul a b = refl
-value_by arith.TheVariants.Div a b = refl
-value_by arith.TheVariants.Rem a b = refl
+value_by _ a b = refl
 
 reads_by : (op : arith.ArithOp) (a b : Term) → reads_signal (arithmetic op a b) ≡ (reads_signal a || reads_signal b)
 unfolding reads_signal
 reads_by arith.TheVariants.Add a b = refl
-reads_by arith.TheVariants.Sub a b = refl
-reads_by arith.TheVariants.Mul a b = refl
-reads_by arith.TheVariants.Div a b = refl
-reads_by arith.TheVariants.Rem a b = refl
+reads_by _ a b = refl
 
 -- ---- numbers that are found
 
@@ -116,29 +108,17 @@ computed_known op a b x y found known_x known_y is h =
 has_by : (op : compare.CompareOp) (a b : Term) → has_signal (comparison op a b) ≡ (reads_signal a || reads_signal b)
 unfolding has_signal
 has_by compare.TheVariants.Eq a b = refl
-has_by compare.TheVariants.Ne a b = refl
-has_by compare.TheVariants.Lt a b = refl
-has_by compare.TheVariants.Le a b = refl
-has_by compare.TheVariants.Gt a b = refl
-has_by compare.TheVariants.Ge a b = refl
+has_by _ a b = refl
 
 holds_by : (op : compare.CompareOp) (a b : Term) → holds (comparison op a b) [] ≡ numbers_compare op (value a []) (value b [])
 unfolding holds
 holds_by compare.TheVariants.Eq a b = refl
-holds_by compare.TheVariants.Ne a b = refl
-holds_by compare.TheVariants.Lt a b = refl
-holds_by compare.TheVariants.Le a b = refl
-holds_by compare.TheVariants.Gt a b = refl
-holds_by compare.TheVariants.Ge a b = refl
+holds_by _ a b = refl
 
 both_faultless : (op : compare.CompareOp) (a b : Term) → formula_fault (atom (comparison op a b)) ≡ None → (term_fault a ≡ None) × (term_fault b ≡ None)
 unfolding formula_fault
 both_faultless compare.TheVariants.Eq a b h = neither (term_fault a) (term_fault b) h
-both_faultless compare.TheVariants.Ne a b h = neither (term_fault a) (term_fault b) h
-both_faultless compare.TheVariants.Lt a b h = neither (term_fault a) (term_fault b) h
-both_faultless compare.TheVariants.Le a b h = neither (term_fault a) (term_fault b) h
-both_faultless compare.TheVariants.Gt a b h = neither (term_fault a) (term_fault b) h
-both_faultless compare.TheVariants.Ge a b h = neither (term_fault a) (term_fault b) h
+both_faultless _ a b h = neither (term_fault a) (term_fault b) h
 
 pub constant_is : (v : Bool) → constant_formula v ≡ of_truth v
 constant_is true = refl

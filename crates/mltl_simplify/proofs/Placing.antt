@@ -57,13 +57,7 @@ numbered_none ts (node.Number k) x y z = absurd (x k refl)
 numbered_none ts (node.Minus a) x y z = absurd (y a refl)
 numbered_none ts (node.Arith op a b) x y z = absurd (z op a b refl)
 numbered_none ts (node.Signal s) x y z = Rattle.mltl_simplify.proofs.Numbering.column_known s
-numbered_none ts (node.Truth v) x y z = tt
-numbered_none ts (node.Flag s) x y z = tt
-numbered_none ts (node.Compare op a b) x y z = tt
-numbered_none ts (node.Not a) x y z = tt
-numbered_none ts (node.Logic op a b) x y z = tt
-numbered_none ts (node.Window op i a) x y z = tt
-numbered_none ts (node.Between op i a b) x y z = tt
+numbered_none ts _ x y z = tt
 
 pub other_numbered : (ts : List Tree) (n : Plain) (tree : Tree) → tree_of ts n ≡ tree → ((k : ℤ) → n ≡ node.Number k → ⊥) → ((a : ℕ) → n ≡ node.Minus a → ⊥) →
     ((op : arith_op.ArithOp) (a b : ℕ) → n ≡ node.Arith op a b → ⊥) → IsNumbered None tree

@@ -98,38 +98,12 @@ module _ (columns : List ℕ) where
   truth_of_over : (x : Formula) → as_truth (over x) ≡ as_truth x
   unfolding as_truth formula_over
   truth_of_over truth = refl
-  truth_of_over falsity = refl
-  truth_of_over (atom a) = refl
-  truth_of_over (negation p) = refl
-  truth_of_over (conjunction p q) = refl
-  truth_of_over (disjunction p q) = refl
-  truth_of_over (implication p q) = refl
-  truth_of_over (equivalence p q) = refl
-  truth_of_over (finally j p) = refl
-  truth_of_over (globally j p) = refl
-  truth_of_over (until j p q) = refl
-  truth_of_over (release j p q) = refl
-  truth_of_over (once j p) = refl
-  truth_of_over (historically j p) = refl
-  truth_of_over (since j p q) = refl
+  truth_of_over _ = refl
 
   not_over : (x : Formula) → over (simple_not x) ≡ simple_not (over x)
   unfolding simple_not formula_over
   not_over truth = refl
-  not_over falsity = refl
-  not_over (atom a) = refl
-  not_over (negation p) = refl
-  not_over (conjunction p q) = refl
-  not_over (disjunction p q) = refl
-  not_over (implication p q) = refl
-  not_over (equivalence p q) = refl
-  not_over (finally j p) = refl
-  not_over (globally j p) = refl
-  not_over (until j p q) = refl
-  not_over (release j p q) = refl
-  not_over (once j p) = refl
-  not_over (historically j p) = refl
-  not_over (since j p q) = refl
+  not_over _ = refl
 
   and_over : (x y : Formula) → over (simple_and x y) ≡ simple_and (over x) (over y)
   unfolding formula_over
@@ -184,75 +158,23 @@ module _ (columns : List ℕ) where
 
   finally_over : (i : Interval) (x : Formula) → over (simple_finally i x) ≡ simple_finally i (over x)
   unfolding simple_finally formula_over
-  finally_over i truth = refl
-  finally_over i falsity = refl
-  finally_over i (atom a) = refl
-  finally_over i (negation p) = refl
-  finally_over i (conjunction p q) = refl
-  finally_over i (disjunction p q) = refl
-  finally_over i (implication p q) = refl
-  finally_over i (equivalence p q) = refl
   finally_over i (finally j p) = joined_over i j (finally (summed_interval i j) p) (finally i (finally j p))
-  finally_over i (globally j p) = refl
-  finally_over i (until j p q) = refl
-  finally_over i (release j p q) = refl
-  finally_over i (once j p) = refl
-  finally_over i (historically j p) = refl
-  finally_over i (since j p q) = refl
+  finally_over i _ = refl
 
   globally_over : (i : Interval) (x : Formula) → over (simple_globally i x) ≡ simple_globally i (over x)
   unfolding simple_globally formula_over
-  globally_over i truth = refl
-  globally_over i falsity = refl
-  globally_over i (atom a) = refl
-  globally_over i (negation p) = refl
-  globally_over i (conjunction p q) = refl
-  globally_over i (disjunction p q) = refl
-  globally_over i (implication p q) = refl
-  globally_over i (equivalence p q) = refl
-  globally_over i (finally j p) = refl
   globally_over i (globally j p) = joined_over i j (globally (summed_interval i j) p) (globally i (globally j p))
-  globally_over i (until j p q) = refl
-  globally_over i (release j p q) = refl
-  globally_over i (once j p) = refl
-  globally_over i (historically j p) = refl
-  globally_over i (since j p q) = refl
+  globally_over i _ = refl
 
   once_over : (i : Interval) (x : Formula) → over (simple_once i x) ≡ simple_once i (over x)
   unfolding simple_once formula_over
-  once_over i truth = refl
-  once_over i falsity = refl
-  once_over i (atom a) = refl
-  once_over i (negation p) = refl
-  once_over i (conjunction p q) = refl
-  once_over i (disjunction p q) = refl
-  once_over i (implication p q) = refl
-  once_over i (equivalence p q) = refl
-  once_over i (finally j p) = refl
-  once_over i (globally j p) = refl
-  once_over i (until j p q) = refl
-  once_over i (release j p q) = refl
   once_over i (once j p) = joined_over i j (once (summed_interval i j) p) (once i (once j p))
-  once_over i (historically j p) = refl
-  once_over i (since j p q) = refl
+  once_over i _ = refl
 
   historically_over : (i : Interval) (x : Formula) → over (simple_historically i x) ≡ simple_historically i (over x)
   unfolding simple_historically formula_over
-  historically_over i truth = refl
-  historically_over i falsity = refl
-  historically_over i (atom a) = refl
-  historically_over i (negation p) = refl
-  historically_over i (conjunction p q) = refl
-  historically_over i (disjunction p q) = refl
-  historically_over i (implication p q) = refl
-  historically_over i (equivalence p q) = refl
-  historically_over i (finally j p) = refl
-  historically_over i (globally j p) = refl
-  historically_over i (until j p q) = refl
-  historically_over i (release j p q) = refl
-  historically_over i (once j p) = refl
   historically_over i (historically j p) = joined_over i j (historically (summed_interval i j) p) (historically i (historically j p))
-  historically_over i (since j p q) = refl
+  historically_over i _ = refl
 
   unless_truth_over : (u : Option Bool) (x : Formula) → over (unless_truth u x) ≡ unless_truth u (over x)
   unless_truth_over (Some v) x = truth_over v

@@ -1,15 +1,16 @@
 -- Bodies that are joined one after another.
 
-use Rattle.std.proofs.Common.{◌≡◌, ℕ, ◌+◌, ◌<◌, Some, List, [], ◌∷◌, take, fold, slice_get, refl, ap, subst}
+use Rattle.std.proofs.Common.{◌≡◌, ℕ, ◌+◌, ◌<◌, Some, List, [], ◌∷◌, take, map, length, slice_get, refl, sym, ap, subst, arith}
 use Rattle.mltl_base.specs.declared.operators.LogicOp.{LogicOp}
 use Rattle.mltl_base.specs.declared.operators.CountOp.{CountOp}
-use Rattle.mltl_base.specs.Formula.{Formula}
+use Rattle.mltl_base.specs.Formula.{falsity}
 use Rattle.mltl_base.specs.Tables.{Table}
+use Rattle.count_sets.specs.Counting.{counting}
 use Rattle.c2po_nodes.specs.declared.nodes.Plain.{Plain}
 use Rattle.c2po_nodes.specs.declared.nodes.Plain.TheVariants as plain
 use Rattle.c2po_nodes.specs.Nodes.{Has, formula, tree_of, trees}
-use Rattle.c2po_unfold.specs.Values.{Value, leaf, connected_all, connected_value, counted, formula_of, tree_in}
-use Rattle.c2po_unfold.proofs.Loops.{joined_one, joined_next}
+use Rattle.c2po_unfold.specs.Values.{Value, connected_all, counted, counted_formula, formula_of}
+use Rattle.c2po_unfold.proofs.Loops.{formulas_back, joined_one, joined_next}
 use Rattle.set_expand.specs.declared.names.Declared.{Declared}
 use Rattle.set_expand.specs.declared.nodes.Made.TheVariants as made
 use Rattle.set_expand.specs.Nodes.{IsMade, IsMore}
@@ -34,29 +35,34 @@ module _ (names : Table Declared) (op : LogicOp) (vs : List Value) where
       → JoinedSoFar names old new op vs (i + 1) n
   joined_more old now mid new i all next n v j at some more last has own = record {
     more = more_then names old now new j.more (more_then names now mid new more last);
-    has = subst (λ p. Has new n (formula p)) (ap formula_of (joined_next op vs i v at some))
+    has = subst (λ p. Has new n (formula p)) (joined_next op vs i v at some)
         (logic_has mid new n op all next (formula_of (connected_all op (take i vs))) (formula_of v) own
         (more.grows.kept all (formula (formula_of (connected_all op (take i vs)))) j.has) has);
   }
 
+-- the nodes of quantifiers over no body, and of a counting one over some
+pub none_joined : (nodes : List Plain) (n : ℕ) (op : LogicOp) (vs : List Value) → length vs ≡ 0 → Has nodes n (formula falsity)
+    → Has nodes n (formula (formula_of (connected_all op vs)))
+none_joined nodes n op [] e h = h
+none_joined nodes n op (v ∷ vs) e h = absurd (omega arith)
+
+pub none_counted : (nodes : List Plain) (n : ℕ) (op : CountOp) (m : ℕ) (vs : List Value) → length vs ≡ 0 → Has nodes n (formula falsity)
+    → Has nodes n (formula (formula_of (counted op m vs)))
+none_counted nodes n op m [] e h = h
+none_counted nodes n op m (v ∷ vs) e h = absurd (omega arith)
+
+pub some_counted : (nodes : List Plain) (n : ℕ) (op : CountOp) (m : ℕ) (vs : List Value) → 0 < length vs
+    → Has nodes n (formula (counted_formula (map formula_of vs) (counting op (length (map formula_of vs)) m)))
+    → Has nodes n (formula (formula_of (counted op m vs)))
+some_counted nodes n op m [] some h = absurd (omega arith)
+some_counted nodes n op m (v ∷ vs) some h =
+    subst (λ ps. Has nodes n (formula (counted_formula ps (counting op (length ps) m)))) (sym (formulas_back (v ∷ vs))) h
+
 -- quantifiers are formulas
-fold_is_formula : (vs : List Value) (op : LogicOp) (p : Formula) (w : ℕ)
-    → tree_in (fold (connected_value op) (leaf (formula p) w) vs) ≡ Some (formula (formula_of (fold (connected_value op) (leaf (formula p) w) vs)))
-fold_is_formula [] op p w = refl
-fold_is_formula (v ∷ vs) op p w = fold_is_formula vs op _ _
-
-pub joined_is_formula : (op : LogicOp) (vs : List Value) → tree_in (connected_all op vs) ≡ Some (formula (formula_of (connected_all op vs)))
-joined_is_formula op [] = refl
-joined_is_formula op (v ∷ vs) = fold_is_formula vs op _ _
-
-pub counted_is_formula : (op : CountOp) (m : ℕ) (vs : List Value) → tree_in (counted op m vs) ≡ Some (formula (formula_of (counted op m vs)))
-counted_is_formula op m [] = refl
-counted_is_formula op m (v ∷ vs) = refl
-
 pub made_joined : (nodes : List Plain) (n : ℕ) (op : LogicOp) (vs : List Value) → Has nodes n (formula (formula_of (connected_all op vs)))
     → IsMade nodes (made.Formula n) (connected_all op vs)
-made_joined nodes n op vs h = (formula_of (connected_all op vs), joined_is_formula op vs, h)
+made_joined nodes n op vs h = (formula_of (connected_all op vs), refl, h)
 
 pub made_counted : (nodes : List Plain) (n : ℕ) (op : CountOp) (m : ℕ) (vs : List Value) → Has nodes n (formula (formula_of (counted op m vs)))
     → IsMade nodes (made.Formula n) (counted op m vs)
-made_counted nodes n op m vs h = (formula_of (counted op m vs), counted_is_formula op m vs, h)
+made_counted nodes n op m vs h = (formula_of (counted op m vs), refl, h)

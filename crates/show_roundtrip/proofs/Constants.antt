@@ -35,20 +35,13 @@ CoreNatural (csince i p q) = CoreNatural p × CoreNatural q
 neg_natural : (p : Core) → CoreNatural p → CoreNatural (neg p)
 unfolding neg
 neg_natural ctrue h = tt
-neg_natural (catom a) h = h
-neg_natural (cnot p) h = h
-neg_natural (cand p q) h = h
-neg_natural (cuntil i p q) h = h
-neg_natural (csince i p q) h = h
+neg_natural _ h = h
 
 atom_natural : (a : Atom) → AtomNatural a → CoreNatural (core_atom a)
 atom_natural (is_true c) h = tt
-atom_natural (equal a b) h = h
-atom_natural (less a b) h = h
-atom_natural (at_most a b) h = h
-atom_natural (different a b) h = h
 atom_natural (greater a b) h = (h.1, h.0)
 atom_natural (at_least a b) h = (h.1, h.0)
+atom_natural _ h = h
 
 core_natural : (p : Formula) → Natural p → CoreNatural (core p)
 unfolding core

@@ -11,14 +11,16 @@ use Rattle.mltl_base.specs.Formula as full
 use Rattle.mltl_base.specs.Formula.{Formula, falsity, atom, negation, conjunction, disjunction, implication, equivalence, finally, globally, until, release, once, historically, since, Core, plain, formula_over}
 use Rattle.mltl_base.specs.Programs.{Expression, whole, truth, expressions, cores_of}
 use Rattle.mltl_base.specs.Ranges.{NoRange}
+use Rattle.c2po_nodes.specs.Nodes.{number, formula}
 use Rattle.c2po_nodes.specs.Faults.{why_none, or_later, term_fault, atom_fault, formula_fault}
 use Rattle.c2po_nodes.specs.Tenses.{has_past, has_future}
 use Rattle.c2po_compile.proofs.Reading.{range_over}
-use Rattle.c2po_unfold.specs.Values.{Value, weight}
+use Rattle.c2po_unfold.specs.Values.{Value}
+use Rattle.c2po_unfold.specs.Weights.{weight}
 use Rattle.c2po_unfold.specs.Faults.{value_fault}
 use Rattle.obs_show.specs.Weight.{formula_weight}
 use Rattle.obs_show.specs.Weighing.{expression_weight}
-use Rattle.show_roundtrip.proofs.Values.{SaysWhole, SaysFormula, Says}
+use Rattle.show_roundtrip.proofs.Values.{SaysWhole, SaysFormula, Says, tree_faults}
 
 -- ---- columns
 
@@ -125,16 +127,16 @@ IsValueDefinable v = (weight v ≤ MAX_WEIGHT) × (value_fault v ≡ None)
 -- what says an expression or a formula has its weight and its faults
 whole_definable : (columns : List ℕ) (v : Value) (t : Term) → SaysWhole columns v t → IsDefinable (whole t) → IsValueDefinable v
 whole_definable columns v t h d =
-    let weighs : weight v ≡ expression_weight (whole t) = ap weight h.is ∙ h.weighs in (
+    let weighs : weight v ≡ expression_weight (whole t) = h.weighs in (
       omega (arith, weighs, d.0),
-      ap value_fault h.is ∙ sym (term_fault_over columns h.tree) ∙ ap term_fault h.over ∙ d.1,
+      tree_faults v (number h.tree) h.is ∙ sym (term_fault_over columns h.tree) ∙ ap term_fault h.over ∙ d.1,
     )
 
 pub formula_definable : (columns : List ℕ) (v : Value) (p : Formula) → SaysFormula columns v p → IsFormulaDefinable p → IsValueDefinable v
 formula_definable columns v p h d =
-    let weighs : weight v ≡ formula_weight p = ap weight h.is ∙ h.weighs in (
+    let weighs : weight v ≡ formula_weight p = h.weighs in (
       omega (arith, weighs, d.0),
-      ap value_fault h.is ∙ sym (fault_over columns h.tree) ∙ ap formula_fault h.over ∙ d.1,
+      tree_faults v (formula h.tree) h.is ∙ sym (fault_over columns h.tree) ∙ ap formula_fault h.over ∙ d.1,
     )
 
 pub value_definable : (columns : List ℕ) (v : Value) (e : Expression) → Says columns v e → IsDefinable e → IsValueDefinable v

@@ -133,7 +133,7 @@ loaded_means program count es p a h len all ok =
 
 always_means : (columns : List ℕ) (env : Env) → MeansFormula columns env always (plain ctrue)
 unfolding plain formula_over formula_weight
-always_means columns env = record { of = truth_value true; finds = refl; says = record { tree = full.truth; weight = 1; is = refl; over = refl; weighs = refl } }
+always_means columns env = record { of = truth_value true; finds = refl; says = record { tree = full.truth; is = refl; over = refl; weighs = refl } }
 
 -- instructions of future time
 abbrev FtKnown : Program → ℕ → List Expression → List Core → Place → Type 0

@@ -22,6 +22,7 @@ use Rattle.c2po_types.specs.FirstFault.{first_fault, is_mixed}
 use Rattle.c2po_types.specs.Stepwise.{State, start, when_ranged, one_tense, defined, with_out, item_step, checked, define_step, input_step, formula_step, contract_step}
 use Rattle.c2po_nodes.specs.Faults.{formula_fault, or_later}
 use Rattle.c2po_unfold.specs.Values as values
+use Rattle.c2po_unfold.specs.Weights.{weight}
 use Rattle.c2po_unfold.specs.Faults.{value_fault}
 use Rattle.c2po_unfold.specs.Environment.{Env, Known, nothing, value, declare, or_else, signal_value, value_of}
 use Rattle.c2po_types.specs.Outputs.{Place, before, place_after, with_signals}
@@ -93,7 +94,7 @@ define_ok n x f s t p e h =
     let free = guard_off (is_named x s.declared.names) _ (Ok e2.0) k e2.2 in
     let v = value_of (form_shape n f) s.values in
     let after : State = record { declared = with_value x k s.declared; labels = s.labels; values = declare x (value v) s.values; total = s.total } in
-    let done : Ok after ≡ Ok t = guard_none n (value_fault v) (Ok after) t (guard_on (nat_le (values.weight v) MAX_WEIGHT) _ (when_ranged n (value_fault v) (Ok after)) t e1.2) in
+    let done : Ok after ≡ Ok t = guard_none n (value_fault v) (Ok after) t (guard_on (nat_le (weight v) MAX_WEIGHT) _ (when_ranged n (value_fault v) (Ok after)) t e1.2) in
     let is : after ≡ t = cc in
     record {
       new = ap (λ (env : Env). env x) (sym h.values) ∙ h.agrees x free.0;
@@ -124,7 +125,7 @@ formula_ok n engine label x s t p e h =
     let e1 = bind_ok (with_label n label s.labels) _ t e in
     let e2 = bind_ok (formula_kind n (reference_shape n x) s.declared) _ t e1.2 in
     let v = value_of (reference_shape n x) s.values in
-    let same = out_ok n e1.0 (values.weight v) (formula_fault (values.formula_of v)) (is_mixed engine (values.formula_of v)) s t e2.2 in
+    let same = out_ok n e1.0 (weight v) (formula_fault (values.formula_of v)) (is_mixed engine (values.formula_of v)) s t e2.2 in
     let more : p.signals ≡ p.signals + 0 = omega arith in
     record { new = tt; together = out_together s t p (place_after (line_body n (formula engine label x)) p) same refl more h }
 
@@ -134,7 +135,7 @@ contract_ok n engine label x y s t p e h =
     let e2 = bind_ok (contract_kind n (reference_shape n x) (reference_shape n y) s.declared) _ t e1.2 in
     let v = value_of (reference_shape n x) s.values in
     let w = value_of (reference_shape n y) s.values in
-    let same = out_ok n e1.0 (values.weight v + values.weight w) (or_later (formula_fault (values.formula_of v)) (formula_fault (values.formula_of w))) _ s t e2.2 in
+    let same = out_ok n e1.0 (weight v + weight w) (or_later (formula_fault (values.formula_of v)) (formula_fault (values.formula_of w))) _ s t e2.2 in
     let more : p.signals ≡ p.signals + 0 = omega arith in
     record { new = tt; together = out_together s t p (place_after (line_body n (contract engine label x y)) p) same refl more h }
 

@@ -39,12 +39,9 @@ good_number true value fault e = tt
 good_number false value fault e = small_enough value e
 
 what_good : (line : ℕ) (f : Front) (bytes : List ℕ) → IsWord f bytes → GoodReading (what_of line f bytes)
-what_good line front.Blank bytes word = tt
-what_good line (front.Comment n) bytes word = tt
 what_good line (front.Word n) bytes word = good_word (nat_lt 64 (length bytes)) (keyword_of bytes) bytes _ refl refl word
 what_good line (front.Digits n) bytes word = good_number (nat_lt 9223372036854775807 (digits_value 10 bytes)) (digits_value 10 bytes) _ refl
-what_good line (front.Sign s) bytes word = tt
-what_good line front.Stray bytes word = tt
+what_good line _ bytes word = tt
 
 abbrev GoodTokens : Result (List Token) LexFault → Type 0
 GoodTokens r = IfOk r (All (λ t. IsToken t.what))

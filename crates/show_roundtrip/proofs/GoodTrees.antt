@@ -62,16 +62,6 @@ window_no_number : (line : ℕ) (ts : List Token) (op : WindowOp) → NotNumber 
 window_no_number line ts op = after_bind (interval_at ts) _ (λ i. tt)
 
 word_no_number : (line : ℕ) (k : Keyword) (ts : List Token) → NotNumber (word_start line k ts (word_quantifier k))
-word_no_number line keyword.Struct ts = tt
-word_no_number line keyword.Input ts = tt
-word_no_number line keyword.Define ts = tt
-word_no_number line keyword.FtSpec ts = tt
-word_no_number line keyword.PtSpec ts = tt
-word_no_number line keyword.Bool ts = tt
-word_no_number line keyword.Int ts = tt
-word_no_number line keyword.Set ts = tt
-word_no_number line keyword.True ts = tt
-word_no_number line keyword.False ts = tt
 word_no_number line keyword.ForEach ts = bound_no_number line _ ts
 word_no_number line keyword.ForSome ts = bound_no_number line _ ts
 word_no_number line keyword.ForExactly ts = bound_no_number line _ ts
@@ -79,11 +69,9 @@ word_no_number line keyword.ForAtLeast ts = bound_no_number line _ ts
 word_no_number line keyword.ForAtMost ts = bound_no_number line _ ts
 word_no_number line keyword.F ts = window_no_number line ts _
 word_no_number line keyword.G ts = window_no_number line ts _
-word_no_number line keyword.U ts = tt
-word_no_number line keyword.R ts = tt
-word_no_number line keyword.S ts = tt
 word_no_number line keyword.O ts = window_no_number line ts _
 word_no_number line keyword.H ts = window_no_number line ts _
+word_no_number line _ ts = tt
 
 name_no_number : (line : ℕ) (x : List ℕ) (ts : List Token) (o : Option (List Token)) → NotNumber (Some (named_or_called line x ts o))
 name_no_number line x ts None = tt
@@ -119,9 +107,7 @@ leaf-numbers line (Ref x) us is words = tt
 
 joined-numbers : (line : ℕ) (op : Infix) (e f : Shape) → HasNumbers e → HasNumbers f → HasNumbers (joined line op e f)
 joined-numbers line (Logic op) e f he hf = (he, hf)
-joined-numbers line (Between op a b) e f he hf = (he, hf)
-joined-numbers line (Compare op) e f he hf = (he, hf)
-joined-numbers line (Arith op) e f he hf = (he, hf)
+joined-numbers line _ e f he hf = (he, hf)
 
 prefixed-numbers : (p : Prefix) (e : Shape) → HasNumbers e → HasNumbers (prefixed p e)
 prefixed-numbers (Not line) e h = h

@@ -76,11 +76,9 @@ label_passes line (Some x) labels h = ap (λ (b : Bool). let r : Checked Labels 
 
 -- the label of an output's item
 abbrev body_labels : BodyShape → List (Option (List ℕ))
-body_labels (item.structure x fs) = []
-body_labels (item.input xs t) = []
-body_labels (item.define x e) = []
 body_labels (item.formula engine label e) = label ∷ []
 body_labels (item.contract engine label e f) = label ∷ []
+body_labels _ = []
 
 abbrev labels_of : List ItemShape → List (Option (List ℕ))
 labels_of [] = []
@@ -139,11 +137,9 @@ nothing_more k names os h = let same : k + 0 ≡ k = omega arith in h ∙ ap (λ
 
 body_names : (body : BodyShape) (p : Place) (outs : List Asked) (os : List (Option (List ℕ))) → names_in outs ≡ names_from (place_after body p).outputs os
     → names_in (asked_at body p ++ outs) ≡ names_from p.outputs (body_labels body ++ os)
-body_names (item.structure x fs) p outs os h = nothing_more p.outputs (names_in outs) os h
-body_names (item.input xs t) p outs os h = nothing_more p.outputs (names_in outs) os h
-body_names (item.define x e) p outs os h = nothing_more p.outputs (names_in outs) os h
 body_names (item.formula engine label e) p outs os h = ap (◌∷◌ (name_of p.outputs label)) h
 body_names (item.contract engine label e f) p outs os h = ap (◌∷◌ (name_of p.outputs label)) h
+body_names _ p outs os h = nothing_more p.outputs (names_in outs) os h
 
 items_names : (items : List ItemShape) (p : Place) → names_in (asked_from items p) ≡ names_from p.outputs (labels_of items)
 unfolding asked_from

@@ -78,11 +78,8 @@ input_named [] t h = tt
 input_named (x ∷ xs) t h = (h.0, input_named xs t h.1)
 
 body_named : (body : BodyShape) → GoodBody body → AreNamedSignals (body_signals body)
-body_named (item.structure x fs) h = tt
 body_named (item.input xs t) h = input_named xs t h.0
-body_named (item.define x e) h = tt
-body_named (item.formula engine label e) h = tt
-body_named (item.contract engine label e f) h = tt
+body_named _ h = tt
 
 signals_named : (items : List ItemShape) → GoodItems items → AreNamedSignals (signals_of items)
 signals_named [] h = tt
@@ -111,11 +108,9 @@ label_is k None h = inl refl
 label_is k (Some x) h = inr h
 
 asked_labelled : (body : BodyShape) (p : Place) → GoodBody body → AreLabels p.outputs (asked_at body p)
-asked_labelled (item.structure x fs) p h = tt
-asked_labelled (item.input xs t) p h = tt
-asked_labelled (item.define x e) p h = tt
 asked_labelled (item.formula engine label e) p h = (label_is p.outputs label h.0, tt)
 asked_labelled (item.contract engine label e f) p h = (label_is p.outputs label h.0, tt)
+asked_labelled _ p h = tt
 
 items_labelled : (items : List ItemShape) (p : Place) → GoodItems items → AreLabels p.outputs (asked_from items p)
 unfolding asked_from

@@ -21,7 +21,8 @@ use Rattle.mltl_base.specs.Ranges.{NoRange, Ranged, divisor, wide, range}
 use Rattle.c2po_nodes.specs.Faults.{why_none, or_later, term_fault, atom_fault, formula_fault}
 use Rattle.c2po_nodes.specs.Tenses.{has_past, has_future}
 use Rattle.c2po_unfold.specs.Values as values
-use Rattle.c2po_unfold.specs.Values.{Value, weight}
+use Rattle.c2po_unfold.specs.Values.{Value}
+use Rattle.c2po_unfold.specs.Weights.{weight}
 use Rattle.c2po_unfold.specs.Environment.{Env, value_of}
 use Rattle.c2po_types.specs.Outputs.{Place, before, place_after}
 use Rattle.c2po_types.specs.FirstFault.{is_mixed}
@@ -86,18 +87,11 @@ term_ranged es h a = go (slice_get es a) refl
 
 -- an instruction over such expressions has ranges, where its whole number has one
 expression_ranged : (es : List Expression) (op : bz.BzOp) → HaveRanges es → term_fault (expression_term (Some (expression_of es op))) ≡ None → expression_fault (expression_of es op) ≡ None
-expression_ranged es (bz.TheVariants.Column c) h e = e
 expression_ranged es (bz.TheVariants.IsTrue c) h e = refl
-expression_ranged es (bz.TheVariants.Const n) h e = e
-expression_ranged es (bz.TheVariants.Neg a) h e = e
-expression_ranged es (bz.TheVariants.Add a b) h e = e
-expression_ranged es (bz.TheVariants.Sub a b) h e = e
-expression_ranged es (bz.TheVariants.Mul a b) h e = e
-expression_ranged es (bz.TheVariants.Div a b) h e = e
-expression_ranged es (bz.TheVariants.Rem a b) h e = e
 expression_ranged es (bz.TheVariants.Eq a b) h e = no_later _ _ (term_ranged es h a) (term_ranged es h b)
 expression_ranged es (bz.TheVariants.Lt a b) h e = no_later _ _ (term_ranged es h a) (term_ranged es h b)
 expression_ranged es (bz.TheVariants.Le a b) h e = no_later _ _ (term_ranged es h a) (term_ranged es h b)
+expression_ranged es _ h e = e
 
 ranges_push : (es : List Expression) (d : Expression) → HaveRanges es → expression_fault d ≡ None → HaveRanges (es ++ d ∷ [])
 ranges_push [] d h k zero e at = ap expression_fault (let same : e ≡ d = cc in same) ∙ k

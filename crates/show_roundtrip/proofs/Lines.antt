@@ -47,24 +47,15 @@ reference_is (number (negsuc n)) h = absurd h
 
 arith_is : (op : arith_op.ArithOp) → sign_text (arith_sign op) ≡ arith_text op
 arith_is arith_op.TheVariants.Add = refl
-arith_is arith_op.TheVariants.Sub = refl
-arith_is arith_op.TheVariants.Mul = refl
-arith_is arith_op.TheVariants.Div = refl
-arith_is arith_op.TheVariants.Rem = refl
+arith_is _ = refl
 
 compare_is : (op : compare_op.CompareOp) → sign_text (compare_sign op) ≡ compare_text op
 compare_is compare_op.TheVariants.Eq = refl
-compare_is compare_op.TheVariants.Ne = refl
-compare_is compare_op.TheVariants.Lt = refl
-compare_is compare_op.TheVariants.Le = refl
-compare_is compare_op.TheVariants.Gt = refl
-compare_is compare_op.TheVariants.Ge = refl
+compare_is _ = refl
 
 logic_is : (op : logic_op.LogicOp) → sign_text (logic_sign op) ≡ logic_text op
 logic_is logic_op.TheVariants.And = refl
-logic_is logic_op.TheVariants.Or = refl
-logic_is logic_op.TheVariants.Implies = refl
-logic_is logic_op.TheVariants.Iff = refl
+logic_is _ = refl
 
 between_is : (op : between_op.BetweenOp) → keyword_text (between_word op) ≡ between_text op
 between_is between_op.TheVariants.U = refl
@@ -150,24 +141,15 @@ reference_stop (number n) rest = refl
 
 arith_space : (op : arith_op.ArithOp) (rest : List ℕ) → Ends (what.Sign (arith_sign op)) (32 ∷ rest)
 arith_space arith_op.TheVariants.Add rest = refl
-arith_space arith_op.TheVariants.Sub rest = refl
-arith_space arith_op.TheVariants.Mul rest = refl
-arith_space arith_op.TheVariants.Div rest = refl
-arith_space arith_op.TheVariants.Rem rest = refl
+arith_space _ rest = refl
 
 compare_space : (op : compare_op.CompareOp) (rest : List ℕ) → Ends (what.Sign (compare_sign op)) (32 ∷ rest)
 compare_space compare_op.TheVariants.Eq rest = refl
-compare_space compare_op.TheVariants.Ne rest = refl
-compare_space compare_op.TheVariants.Lt rest = refl
-compare_space compare_op.TheVariants.Le rest = refl
-compare_space compare_op.TheVariants.Gt rest = refl
-compare_space compare_op.TheVariants.Ge rest = refl
+compare_space _ rest = refl
 
 logic_space : (op : logic_op.LogicOp) (rest : List ℕ) → Ends (what.Sign (logic_sign op)) (32 ∷ rest)
 logic_space logic_op.TheVariants.And rest = refl
-logic_space logic_op.TheVariants.Or rest = refl
-logic_space logic_op.TheVariants.Implies rest = refl
-logic_space logic_op.TheVariants.Iff rest = refl
+logic_space _ rest = refl
 
 word_byte : (b : ℕ) → begins_word b ≡ true → (not (b == 62 || b == 45) ≡ true) × (not (b == 61) ≡ true)
 word_byte b h = (grind (arith, nat_tests), grind (arith, nat_tests))

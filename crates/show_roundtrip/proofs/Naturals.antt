@@ -57,18 +57,11 @@ Natural p = EachAtom AtomNatural p
 
 arith_natural : (op : ArithOp) (a b : Term) → TermNatural a → TermNatural b → TermNatural (arithmetic op a b)
 arith_natural Add a b g h = (g, h)
-arith_natural Sub a b g h = (g, h)
-arith_natural Mul a b g h = (g, h)
-arith_natural Div a b g h = (g, h)
-arith_natural Rem a b g h = (g, h)
+arith_natural _ a b g h = (g, h)
 
 compare_natural : (op : CompareOp) (a b : Term) → TermNatural a → TermNatural b → AtomNatural (comparison op a b)
 compare_natural Eq a b g h = (g, h)
-compare_natural Ne a b g h = (g, h)
-compare_natural Lt a b g h = (g, h)
-compare_natural Le a b g h = (g, h)
-compare_natural Gt a b g h = (g, h)
-compare_natural Ge a b g h = (g, h)
+compare_natural _ a b g h = (g, h)
 
 truth_natural : (b : Bool) → Natural (constant_formula b)
 truth_natural true = tt
@@ -76,15 +69,11 @@ truth_natural false = tt
 
 logic_natural : (op : LogicOp) (p q : Formula) → Natural p → Natural q → Natural (connected op p q)
 logic_natural And p q g h = (g, h)
-logic_natural Or p q g h = (g, h)
-logic_natural Implies p q g h = (g, h)
-logic_natural Iff p q g h = (g, h)
+logic_natural _ p q g h = (g, h)
 
 window_natural : (op : WindowOp) (a b : ℕ) (p : Formula) → Natural p → Natural (windowed op (interval a b) p)
 window_natural F a b p h = h
-window_natural G a b p h = h
-window_natural O a b p h = h
-window_natural H a b p h = h
+window_natural _ a b p h = h
 
 between_natural : (op : BetweenOp) (a b : ℕ) (p q : Formula) → Natural p → Natural q → Natural (ranged op (interval a b) p q)
 between_natural U a b p q g h = (g, h)

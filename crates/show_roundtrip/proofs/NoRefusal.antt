@@ -17,7 +17,7 @@ use Rattle.c2po_types.specs.Items.{Labels, nothing, with_value, with_label, form
 use Rattle.c2po_types.specs.FirstFault.{first_fault, is_mixed}
 use Rattle.c2po_types.specs.Stepwise.{State, when_ranged, one_tense, defined, with_out, one_out, two_out, item_step, checked}
 use Rattle.c2po_nodes.specs.Faults.{formula_fault, or_later}
-use Rattle.c2po_unfold.specs.Values as values
+use Rattle.c2po_unfold.specs.Weights.{weight}
 use Rattle.c2po_unfold.specs.Values.{Value, formula_of}
 use Rattle.c2po_unfold.specs.Faults.{value_fault}
 use Rattle.c2po_unfold.specs.Environment.{Env, value, declare, signal_value}
@@ -91,7 +91,7 @@ define_goes n x f d later labels next p total count kinds label passes =
     record {
       step =
           ap (λ (m : Checked Kind). m >>= λ k. defined n x (with_value x k d) v s) kinds.1
-          ∙ ap (λ (b : Bool). if b then when_ranged n (value_fault v) after else Err (fault.Wide n)) (at_most (values.weight v) MAX_WEIGHT passes.0)
+          ∙ ap (λ (b : Bool). if b then when_ranged n (value_fault v) after else Err (fault.Wide n)) (at_most (weight v) MAX_WEIGHT passes.0)
           ∙ ap (λ (o : Option NoRange). when_ranged n o after) passes.1
           ∙ same_way (with_value x kinds.0 d) later labels next (declare x (value v) p.values) (declare x (value v) p.values) total (total + 0) kinds.2 (ok_same labels next label) refl none;
       counted = ap (λ (c : Declarations). length c.signals) (sym kinds.2) ∙ count ∙ more;
@@ -118,7 +118,7 @@ formula_goes n engine name x d later labels next p total count kinds label passe
       step =
           ap (λ (m : Checked Labels). m >>= λ ls. formula_kind n (reference_shape n x) d >>= λ k. one_out n engine ls v s) label
           ∙ ap (λ (m : Checked Kind). m >>= λ k. one_out n engine next v s) kinds.1
-          ∙ out_goes n d later next (values.weight v) (formula_fault (formula_of v)) (is_mixed engine (formula_of v)) p.values total kinds.2 passes.0 passes.1 passes.2;
+          ∙ out_goes n d later next (weight v) (formula_fault (formula_of v)) (is_mixed engine (formula_of v)) p.values total kinds.2 passes.0 passes.1 passes.2;
       counted = ap (λ (c : Declarations). length c.signals) (sym kinds.2) ∙ count ∙ more;
     }
 
@@ -134,7 +134,7 @@ contract_goes n engine name x y d later labels next p total count kinds label pa
       step =
           ap (λ (m : Checked Labels). m >>= λ ls. contract_kind n (reference_shape n x) (reference_shape n y) d >>= λ k. two_out n engine ls v w s) label
           ∙ ap (λ (m : Checked Kind). m >>= λ k. two_out n engine next v w s) kinds.1
-          ∙ out_goes n d later next (values.weight v + values.weight w) (or_later (formula_fault (formula_of v)) (formula_fault (formula_of w))) (is_mixed engine (formula_of v) || is_mixed engine (formula_of w)) p.values total
+          ∙ out_goes n d later next (weight v + weight w) (or_later (formula_fault (formula_of v)) (formula_fault (formula_of w))) (is_mixed engine (formula_of v) || is_mixed engine (formula_of w)) p.values total
           kinds.2 passes.0 passes.1 passes.2;
       counted = ap (λ (c : Declarations). length c.signals) (sym kinds.2) ∙ count ∙ more;
     }

@@ -40,27 +40,7 @@ run_ends p (x ∷ xs) b rest all stop =
 -- a keyword is a word
 keyword_begins : (k : Keyword) → begins_word (slice_index (keyword_text k) 0) ≡ true
 keyword_begins keyword.Struct = refl
-keyword_begins keyword.Input = refl
-keyword_begins keyword.Define = refl
-keyword_begins keyword.FtSpec = refl
-keyword_begins keyword.PtSpec = refl
-keyword_begins keyword.Bool = refl
-keyword_begins keyword.Int = refl
-keyword_begins keyword.Set = refl
-keyword_begins keyword.True = refl
-keyword_begins keyword.False = refl
-keyword_begins keyword.ForEach = refl
-keyword_begins keyword.ForSome = refl
-keyword_begins keyword.ForExactly = refl
-keyword_begins keyword.ForAtLeast = refl
-keyword_begins keyword.ForAtMost = refl
-keyword_begins keyword.F = refl
-keyword_begins keyword.G = refl
-keyword_begins keyword.U = refl
-keyword_begins keyword.R = refl
-keyword_begins keyword.S = refl
-keyword_begins keyword.O = refl
-keyword_begins keyword.H = refl
+keyword_begins _ = refl
 
 -- what is known of a keyword's letters
 abbrev pub IsWordOf : List ℕ → Option Keyword → Type 0
@@ -68,27 +48,7 @@ IsWordOf w k = (list_all is_in_word w ≡ true) × (nat_lt 64 (length w) ≡ fal
 
 keyword_word : (k : Keyword) → IsWordOf (keyword_text k) (Some k)
 keyword_word keyword.Struct = (refl, refl, refl)
-keyword_word keyword.Input = (refl, refl, refl)
-keyword_word keyword.Define = (refl, refl, refl)
-keyword_word keyword.FtSpec = (refl, refl, refl)
-keyword_word keyword.PtSpec = (refl, refl, refl)
-keyword_word keyword.Bool = (refl, refl, refl)
-keyword_word keyword.Int = (refl, refl, refl)
-keyword_word keyword.Set = (refl, refl, refl)
-keyword_word keyword.True = (refl, refl, refl)
-keyword_word keyword.False = (refl, refl, refl)
-keyword_word keyword.ForEach = (refl, refl, refl)
-keyword_word keyword.ForSome = (refl, refl, refl)
-keyword_word keyword.ForExactly = (refl, refl, refl)
-keyword_word keyword.ForAtLeast = (refl, refl, refl)
-keyword_word keyword.ForAtMost = (refl, refl, refl)
-keyword_word keyword.F = (refl, refl, refl)
-keyword_word keyword.G = (refl, refl, refl)
-keyword_word keyword.U = (refl, refl, refl)
-keyword_word keyword.R = (refl, refl, refl)
-keyword_word keyword.S = (refl, refl, refl)
-keyword_word keyword.O = (refl, refl, refl)
-keyword_word keyword.H = (refl, refl, refl)
+keyword_word _ = (refl, refl, refl)
 
 -- a text that begins with a word, and with digits
 front_is_word : (text : List ℕ) → is_white (slice_index text 0) ≡ false → starts_with nat_eq text (codes "--") ≡ false → begins_word (slice_index text 0) ≡ true → front_of text ≡ front.Word (prefix_len is_in_word text)
@@ -206,64 +166,16 @@ one_fails b m h = grind (arith, nat_tests)
 
 front_sign : (s : Sign) (b : ℕ) (tail : List ℕ) → ends_before s b ≡ true → front_of (sign_text s ++ b ∷ tail) ≡ front.Sign s
 unfolding front_of
-front_sign sign.Iff b tail h = refl
-front_sign sign.Implies b tail h = refl
-front_sign sign.Promises b tail h = refl
-front_sign sign.Becomes b tail h = refl
-front_sign sign.EqualEqual b tail h = refl
-front_sign sign.NotEqual b tail h = refl
-front_sign sign.LessEqual b tail h = refl
-front_sign sign.GreaterEqual b tail h = refl
-front_sign sign.AndAnd b tail h = refl
-front_sign sign.OrOr b tail h = refl
-front_sign sign.LeftRound b tail h = refl
-front_sign sign.RightRound b tail h = refl
-front_sign sign.LeftCurly b tail h = refl
-front_sign sign.RightCurly b tail h = refl
-front_sign sign.LeftSquare b tail h = refl
-front_sign sign.RightSquare b tail h = refl
-front_sign sign.Comma b tail h = refl
-front_sign sign.Semicolon b tail h = refl
 front_sign sign.Colon b tail h = rw (one_fails b 61 h) refl
-front_sign sign.Dot b tail h = refl
 front_sign sign.Bang b tail h = rw (one_fails b 61 h) refl
 front_sign sign.Less b tail h = let f = both_fail b 61 45 h in rw f.0 (rw f.1 refl)
 front_sign sign.Greater b tail h = rw (one_fails b 61 h) refl
-front_sign sign.Plus b tail h = refl
 front_sign sign.Minus b tail h = let f = both_fail b 62 45 h in rw f.0 (rw f.1 refl)
-front_sign sign.Star b tail h = refl
-front_sign sign.Slash b tail h = refl
-front_sign sign.Percent b tail h = refl
+front_sign _ b tail h = refl
 
 sign_size : (s : Sign) → (1 ≤ length (sign_text s)) × (count_by (λ b. b == 10) (sign_text s) ≡ 0)
 sign_size sign.Iff = (omega arith, refl)
-sign_size sign.Implies = (omega arith, refl)
-sign_size sign.Promises = (omega arith, refl)
-sign_size sign.Becomes = (omega arith, refl)
-sign_size sign.EqualEqual = (omega arith, refl)
-sign_size sign.NotEqual = (omega arith, refl)
-sign_size sign.LessEqual = (omega arith, refl)
-sign_size sign.GreaterEqual = (omega arith, refl)
-sign_size sign.AndAnd = (omega arith, refl)
-sign_size sign.OrOr = (omega arith, refl)
-sign_size sign.LeftRound = (omega arith, refl)
-sign_size sign.RightRound = (omega arith, refl)
-sign_size sign.LeftCurly = (omega arith, refl)
-sign_size sign.RightCurly = (omega arith, refl)
-sign_size sign.LeftSquare = (omega arith, refl)
-sign_size sign.RightSquare = (omega arith, refl)
-sign_size sign.Comma = (omega arith, refl)
-sign_size sign.Semicolon = (omega arith, refl)
-sign_size sign.Colon = (omega arith, refl)
-sign_size sign.Dot = (omega arith, refl)
-sign_size sign.Bang = (omega arith, refl)
-sign_size sign.Less = (omega arith, refl)
-sign_size sign.Greater = (omega arith, refl)
-sign_size sign.Plus = (omega arith, refl)
-sign_size sign.Minus = (omega arith, refl)
-sign_size sign.Star = (omega arith, refl)
-sign_size sign.Slash = (omega arith, refl)
-sign_size sign.Percent = (omega arith, refl)
+sign_size _ = (omega arith, refl)
 
 reads_sign : (s : Sign) (b : ℕ) (tail : List ℕ) → ends_before s b ≡ true → Reads (Some (what.Sign s)) 0 (sign_text s) (b ∷ tail)
 reads_sign s b tail h =

@@ -30,9 +30,7 @@ all_signals (l ∷ ls) = signals_by l ++ all_signals ls
 body_is : (n : ℕ) (l : Line) → body_signals (line_body n l) ≡ signals_by l
 body_is n (input x true) = refl
 body_is n (input x false) = refl
-body_is n (define x f) = refl
-body_is n (formula engine label x) = refl
-body_is n (contract engine label x y) = refl
+body_is n _ = refl
 
 items_are : (ls : List Line) (n : ℕ) → signals_of (line_items n ls) ≡ all_signals ls
 unfolding line_items

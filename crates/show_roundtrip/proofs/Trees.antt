@@ -109,26 +109,17 @@ two_derive line op x r ops e f h left right =
 arith_reads : (op : arith_op.ArithOp) (line s n : ℕ) (r : Token) → operator_at (at_place line s n (what.Sign (arith_sign op)) ∷ r ∷ []) ≡ Some (Binary line (Arith op), r ∷ [])
 unfolding operator_at
 arith_reads arith_op.TheVariants.Add line s n r = refl
-arith_reads arith_op.TheVariants.Sub line s n r = refl
-arith_reads arith_op.TheVariants.Mul line s n r = refl
-arith_reads arith_op.TheVariants.Div line s n r = refl
-arith_reads arith_op.TheVariants.Rem line s n r = refl
+arith_reads _ line s n r = refl
 
 compare_reads : (op : compare_op.CompareOp) (line s n : ℕ) (r : Token) → operator_at (at_place line s n (what.Sign (compare_sign op)) ∷ r ∷ []) ≡ Some (Binary line (Compare op), r ∷ [])
 unfolding operator_at
 compare_reads compare_op.TheVariants.Eq line s n r = refl
-compare_reads compare_op.TheVariants.Ne line s n r = refl
-compare_reads compare_op.TheVariants.Lt line s n r = refl
-compare_reads compare_op.TheVariants.Le line s n r = refl
-compare_reads compare_op.TheVariants.Gt line s n r = refl
-compare_reads compare_op.TheVariants.Ge line s n r = refl
+compare_reads _ line s n r = refl
 
 logic_reads : (op : logic_op.LogicOp) (line s n : ℕ) (r : Token) → operator_at (at_place line s n (what.Sign (logic_sign op)) ∷ r ∷ []) ≡ Some (Binary line (Logic op), r ∷ [])
 unfolding operator_at
 logic_reads logic_op.TheVariants.And line s n r = refl
-logic_reads logic_op.TheVariants.Or line s n r = refl
-logic_reads logic_op.TheVariants.Implies line s n r = refl
-logic_reads logic_op.TheVariants.Iff line s n r = refl
+logic_reads _ line s n r = refl
 
 -- the tokens of an operator with its interval
 abbrev between_tokens : between_op.BetweenOp → Interval → (line s : ℕ) → List Token

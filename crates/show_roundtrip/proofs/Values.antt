@@ -1,8 +1,9 @@
 -- What references and forms stand for: values that say the expressions and formulas of a program's instructions.
 
-use Rattle.std.proofs.Common.{◌≡◌, ◌∙◌, ℕ, ◌+◌, ◌≤◌, true, List, refl, ap, ap₂, sym, arith}
+use Rattle.std.proofs.Common.{◌≡◌, ◌∙◌, ℕ, ◌+◌, ◌≤◌, true, Some, List, refl, ap, ap₂, sym, arith}
 use Rattle.std.specs.Prelude.{if◌then◌else◌, min}
 use Rattle.std.specs.Str.{bytes_eq}
+use Rattle.std.proofs.lemmas.Option.{same_Some}
 use Rattle.std.proofs.lemmas.Slice.Eq.{bytes_eq-Decides}
 use Rattle.mltl_base.specs.declared.limits.TheConstants.{MAX_BOUND}
 use Rattle.mltl_base.specs.declared.interval.Interval.{Interval}
@@ -17,8 +18,11 @@ use Rattle.mltl_base.specs.Formula.{Formula, Core, plain, formula_over}
 use Rattle.mltl_base.specs.Programs.{Expression, whole, truth}
 use Rattle.c2po_nodes.specs.Nodes as nodes
 use Rattle.c2po_nodes.specs.Nodes.{arithmetic, comparison, connected, ranged}
+use Rattle.c2po_nodes.specs.Faults.{tree_fault}
+use Rattle.c2po_unfold.specs.Faults.{value_fault}
 use Rattle.c2po_unfold.specs.Values as values
-use Rattle.c2po_unfold.specs.Values.{Value, leaf, number_value, truth_value, weight, opposite, inverted, computed, compared, connected_value, ranged_value, interval}
+use Rattle.c2po_unfold.specs.Values.{Value, leaf, structure, set, leaf_tree, number_value, truth_value, tree_in, interval}
+use Rattle.c2po_unfold.specs.Weights.{weight}
 use Rattle.c2po_unfold.specs.Environment.{Env, Known, nothing, value, declare, or_else, value_in, value_of}
 use Rattle.obs_show.specs.Lines.{Reference, always, named, number, Form, minus, arith as computes, compare, negation, logic, between}
 use Rattle.obs_show.specs.Weight.{term_weight, atom_weight, formula_weight}
@@ -62,28 +66,32 @@ finds_later env later (number z) v g h = h
 -- a value says an expression over columns, or a core formula, and weighs as much
 pub record SaysWhole (columns : List ℕ) (v : Value) (t : Term) : Type 0 where
   pub tree : Term
-  pub weight : ℕ
-  pub is : v ≡ leaf (nodes.number tree) weight
+  pub is : tree_in v ≡ Some (nodes.number tree)
   pub over : term_over columns tree ≡ t
-  pub weighs : weight ≡ term_weight t
+  pub weighs : weight v ≡ term_weight t
 
 pub record SaysFormula (columns : List ℕ) (v : Value) (p : Formula) : Type 0 where
   pub tree : Formula
-  pub weight : ℕ
-  pub is : v ≡ leaf (nodes.formula tree) weight
+  pub is : tree_in v ≡ Some (nodes.formula tree)
   pub over : formula_over columns tree ≡ p
-  pub weighs : weight ≡ formula_weight p
+  pub weighs : weight v ≡ formula_weight p
 
 abbrev pub Says : List ℕ → Value → Expression → Type 0
 Says columns v (whole t) = SaysWhole columns v t
 Says columns v (truth a) = SaysFormula columns v (full.atom a)
 
+-- the faults of a value are those of its tree
+pub tree_faults : (v : Value) (t : nodes.Tree) → tree_in v ≡ Some t → value_fault v ≡ tree_fault t
+tree_faults (leaf l) t h = ap tree_fault (same_Some (leaf_tree l) t h)
+tree_faults (structure x vs) t h = absurd (cc)
+tree_faults (set vs) t h = absurd (cc)
+
 -- the whole number, and the formula, of what is said
 says_term : (columns : List ℕ) (v : Value) (t : Term) → SaysWhole columns v t → term_over columns (values.term_of v) ≡ t
-says_term columns v t h = ap (λ w. term_over columns (values.term_of w)) h.is ∙ h.over
+says_term columns v t h = ap (λ o. term_over columns (nodes.term_in o)) h.is ∙ h.over
 
 pub says_formula : (columns : List ℕ) (v : Value) (p : Formula) → SaysFormula columns v p → formula_over columns (values.formula_of v) ≡ p
-says_formula columns v p h = ap (λ w. formula_over columns (values.formula_of w)) h.is ∙ h.over
+says_formula columns v p h = ap (λ o. formula_over columns (nodes.formula_in o)) h.is ∙ h.over
 
 -- what a reference stands for says an expression, and a formula
 pub record Means (columns : List ℕ) (env : Env) (x : Reference) (e : Expression) : Type 0 where
@@ -110,10 +118,10 @@ pub formula_by : (columns : List ℕ) (env : Env) (n : ℕ) (x : Reference) (p :
 formula_by columns env n x p h = ap (λ v. formula_over columns (values.formula_of v)) (found env n x h.of h.finds) ∙ says_formula columns h.of p h.says
 
 term_weighs : (columns : List ℕ) (env : Env) (n : ℕ) (x : Reference) (t : Term) → Means columns env x (whole t) → weight (value_of (reference_shape n x) env) ≡ term_weight t
-term_weighs columns env n x t h = ap weight (found env n x h.of h.finds ∙ h.says.is) ∙ h.says.weighs
+term_weighs columns env n x t h = ap weight (found env n x h.of h.finds) ∙ h.says.weighs
 
 pub formula_weighs : (columns : List ℕ) (env : Env) (n : ℕ) (x : Reference) (p : Formula) → MeansFormula columns env x p → weight (value_of (reference_shape n x) env) ≡ formula_weight p
-formula_weighs columns env n x p h = ap weight (found env n x h.of h.finds ∙ h.says.is) ∙ h.says.weighs
+formula_weighs columns env n x p h = ap weight (found env n x h.of h.finds) ∙ h.says.weighs
 
 -- the weight of an operator over two operands
 over_two : (a b m n : ℕ) → a ≡ m → b ≡ n → 1 + a + b ≡ 1 + m + n
@@ -129,47 +137,32 @@ FormSaysFormula columns env f p = (n : ℕ) → SaysFormula columns (value_of (f
 pub minus_says : (columns : List ℕ) (env : Env) (x : Reference) (t : Term) → Means columns env x (whole t) → FormSays columns env (minus x) (whole (atoms.negative t))
 unfolding term_over term_weight
 minus_says columns env x t h n =
-    record { tree = _; weight = _; is = refl; over = ap atoms.negative (term_by columns env n x t h); weighs = ap (λ w. 1 + w) (term_weighs columns env n x t h) }
+    record { tree = _; is = refl; over = ap atoms.negative (term_by columns env n x t h); weighs = ap (λ w. 1 + w) (term_weighs columns env n x t h) }
 
 -- the term of an operation, and the atom of a comparison, with their weights
 arith_over : (columns : List ℕ) (op : arith_op.ArithOp) (a b : Term) → term_over columns (arithmetic op a b) ≡ arithmetic op (term_over columns a) (term_over columns b)
 unfolding term_over
 arith_over columns arith_op.TheVariants.Add a b = refl
-arith_over columns arith_op.TheVariants.Sub a b = refl
-arith_over columns arith_op.TheVariants.Mul a b = refl
-arith_over columns arith_op.TheVariants.Div a b = refl
-arith_over columns arith_op.TheVariants.Rem a b = refl
+arith_over columns _ a b = refl
 
 compare_over : (columns : List ℕ) (op : compare_op.CompareOp) (a b : Term) → atom_over columns (comparison op a b) ≡ comparison op (term_over columns a) (term_over columns b)
 unfolding atom_over
 compare_over columns compare_op.TheVariants.Eq a b = refl
-compare_over columns compare_op.TheVariants.Ne a b = refl
-compare_over columns compare_op.TheVariants.Lt a b = refl
-compare_over columns compare_op.TheVariants.Le a b = refl
-compare_over columns compare_op.TheVariants.Gt a b = refl
-compare_over columns compare_op.TheVariants.Ge a b = refl
+compare_over columns _ a b = refl
 
 arith_weight : (op : arith_op.ArithOp) (a b : Term) → 1 + term_weight a + term_weight b ≡ term_weight (arithmetic op a b)
 unfolding term_weight
 arith_weight arith_op.TheVariants.Add a b = refl
-arith_weight arith_op.TheVariants.Sub a b = refl
-arith_weight arith_op.TheVariants.Mul a b = refl
-arith_weight arith_op.TheVariants.Div a b = refl
-arith_weight arith_op.TheVariants.Rem a b = refl
+arith_weight _ a b = refl
 
 compare_weight : (op : compare_op.CompareOp) (a b : Term) → 1 + term_weight a + term_weight b ≡ atom_weight (comparison op a b)
 compare_weight compare_op.TheVariants.Eq a b = refl
-compare_weight compare_op.TheVariants.Ne a b = refl
-compare_weight compare_op.TheVariants.Lt a b = refl
-compare_weight compare_op.TheVariants.Le a b = refl
-compare_weight compare_op.TheVariants.Gt a b = refl
-compare_weight compare_op.TheVariants.Ge a b = refl
+compare_weight _ a b = refl
 
 pub arith_says : (columns : List ℕ) (env : Env) (op : arith_op.ArithOp) (x y : Reference) (s t : Term) → Means columns env x (whole s) → Means columns env y (whole t)
     → FormSays columns env (computes op x y) (whole (arithmetic op s t))
 arith_says columns env op x y s t h g n = record {
   tree = _;
-  weight = _;
   is = refl;
   over = arith_over columns op _ _ ∙ ap₂ (arithmetic op) (term_by columns env n x s h) (term_by columns env n y t g);
   weighs = over_two _ _ _ _ (term_weighs columns env n x s h) (term_weighs columns env n y t g) ∙ arith_weight op s t;
@@ -180,7 +173,6 @@ pub compare_says : (columns : List ℕ) (env : Env) (op : compare_op.CompareOp) 
 unfolding formula_over formula_weight
 compare_says columns env op x y s t h g n = record {
   tree = _;
-  weight = _;
   is = refl;
   over = ap full.atom (compare_over columns op _ _ ∙ ap₂ (comparison op) (term_by columns env n x s h) (term_by columns env n y t g));
   weighs = over_two _ _ _ _ (term_weighs columns env n x s h) (term_weighs columns env n y t g) ∙ compare_weight op s t;
@@ -189,14 +181,13 @@ compare_says columns env op x y s t h g n = record {
 pub negation_says : (columns : List ℕ) (env : Env) (x : Reference) (p : Formula) → MeansFormula columns env x p → FormSaysFormula columns env (negation x) (full.negation p)
 unfolding formula_over formula_weight
 negation_says columns env x p h n =
-    record { tree = _; weight = _; is = refl; over = ap full.negation (formula_by columns env n x p h); weighs = ap (λ w. 1 + w) (formula_weighs columns env n x p h) }
+    record { tree = _; is = refl; over = ap full.negation (formula_by columns env n x p h); weighs = ap (λ w. 1 + w) (formula_weighs columns env n x p h) }
 
 pub and_says : (columns : List ℕ) (env : Env) (x y : Reference) (p q : Formula) → MeansFormula columns env x p → MeansFormula columns env y q
     → FormSaysFormula columns env (logic logic_op.TheVariants.And x y) (full.conjunction p q)
 unfolding formula_over formula_weight
 and_says columns env x y p q h g n = record {
   tree = _;
-  weight = _;
   is = refl;
   over = ap₂ full.conjunction (formula_by columns env n x p h) (formula_by columns env n y q g);
   weighs = over_two _ _ _ _ (formula_weighs columns env n x p h) (formula_weighs columns env n y q g);
@@ -218,7 +209,6 @@ pub until_says : (columns : List ℕ) (env : Env) (i : Interval) (x y : Referenc
 unfolding formula_over formula_weight
 until_says columns env i x y p q w h g n = record {
   tree = _;
-  weight = _;
   is = refl;
   over = ap (λ j. full.until j (formula_at columns env n x) (formula_at columns env n y)) w ∙ ap₂ (full.until i) (formula_by columns env n x p h) (formula_by columns env n y q g);
   weighs = over_two _ _ _ _ (formula_weighs columns env n x p h) (formula_weighs columns env n y q g);
@@ -229,7 +219,6 @@ pub since_says : (columns : List ℕ) (env : Env) (i : Interval) (x y : Referenc
 unfolding formula_over formula_weight
 since_says columns env i x y p q w h g n = record {
   tree = _;
-  weight = _;
   is = refl;
   over = ap (λ j. full.since j (formula_at columns env n x) (formula_at columns env n y)) w ∙ ap₂ (full.since i) (formula_by columns env n x p h) (formula_by columns env n y q g);
   weighs = over_two _ _ _ _ (formula_weighs columns env n x p h) (formula_weighs columns env n y q g);

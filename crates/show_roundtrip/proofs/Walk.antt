@@ -131,9 +131,6 @@ compare_operands program env before op a b h are =
 
 bz_says : (program : Program) (env : Env) (before : List Expression) (op : bz.BzOp) → Knows program env before → SoundOp program.width before op
     → OptionSays (columns_in program) env (bz_form program op) (expression_of before op)
-bz_says program env before (bz.TheVariants.Column c) h ok = tt
-bz_says program env before (bz.TheVariants.IsTrue c) h ok = tt
-bz_says program env before (bz.TheVariants.Const n) h ok = tt
 bz_says program env before (bz.TheVariants.Neg a) h ok = minus_says (columns_in program) env (bz_reference program a) (term_at before a) (operand program env before a h ok.0)
 bz_says program env before (bz.TheVariants.Add a b) h ok = arith_operands program env before arith_op.TheVariants.Add a b h ok.0
 bz_says program env before (bz.TheVariants.Sub a b) h ok = arith_operands program env before arith_op.TheVariants.Sub a b h ok.0
@@ -143,21 +140,15 @@ bz_says program env before (bz.TheVariants.Rem a b) h ok = arith_operands progra
 bz_says program env before (bz.TheVariants.Eq a b) h ok = compare_operands program env before compare_op.TheVariants.Eq a b h ok
 bz_says program env before (bz.TheVariants.Lt a b) h ok = compare_operands program env before compare_op.TheVariants.Lt a b h ok
 bz_says program env before (bz.TheVariants.Le a b) h ok = compare_operands program env before compare_op.TheVariants.Le a b h ok
+bz_says program env before _ h ok = tt
 
 -- an instruction that gives a truth says one
 kind_of_op : (before : List Expression) (op : bz.BzOp) → is_truth (Some op) ≡ true → IsTruthExpression (expression_of before op)
-kind_of_op before (bz.TheVariants.Column c) h = absurd (cc)
 kind_of_op before (bz.TheVariants.IsTrue c) h = tt
-kind_of_op before (bz.TheVariants.Const n) h = absurd (cc)
-kind_of_op before (bz.TheVariants.Neg a) h = absurd (cc)
-kind_of_op before (bz.TheVariants.Add a b) h = absurd (cc)
-kind_of_op before (bz.TheVariants.Sub a b) h = absurd (cc)
-kind_of_op before (bz.TheVariants.Mul a b) h = absurd (cc)
-kind_of_op before (bz.TheVariants.Div a b) h = absurd (cc)
-kind_of_op before (bz.TheVariants.Rem a b) h = absurd (cc)
 kind_of_op before (bz.TheVariants.Eq a b) h = tt
 kind_of_op before (bz.TheVariants.Lt a b) h = tt
 kind_of_op before (bz.TheVariants.Le a b) h = tt
+kind_of_op before _ h = absurd (cc)
 
 -- signals by their columns
 abbrev pub HaveOwnColumns : List StoredSignal → Type 0
@@ -219,16 +210,7 @@ right_and a b h = (and_parts a b h).1
 pub kind_for : (program : Program) (i : ℕ) (op : bz.BzOp) → program.version ≡ 2 → has_operands program i op ≡ true → HasKindFor program op
 kind_for program i (bz.TheVariants.Column c) v h = ap (λ n. (n == 1) || has_kind program.signals c false) (sym v) ∙ right_and (nat_lt c program.width) ((program.version == 1) || has_kind program.signals c false) h
 kind_for program i (bz.TheVariants.IsTrue c) v h = ap (λ n. (n == 1) || has_kind program.signals c true) (sym v) ∙ right_and (nat_lt c program.width) ((program.version == 1) || has_kind program.signals c true) h
-kind_for program i (bz.TheVariants.Const n) v h = tt
-kind_for program i (bz.TheVariants.Neg a) v h = tt
-kind_for program i (bz.TheVariants.Add a b) v h = tt
-kind_for program i (bz.TheVariants.Sub a b) v h = tt
-kind_for program i (bz.TheVariants.Mul a b) v h = tt
-kind_for program i (bz.TheVariants.Div a b) v h = tt
-kind_for program i (bz.TheVariants.Rem a b) v h = tt
-kind_for program i (bz.TheVariants.Eq a b) v h = tt
-kind_for program i (bz.TheVariants.Lt a b) v h = tt
-kind_for program i (bz.TheVariants.Le a b) v h = tt
+kind_for program i _ v h = tt
 
 bz_reads : (program : Program) (env : Env) (i : ℕ) (before : List Expression) (op : bz.BzOp) → KnowsSignals program.signals env → HaveOwnColumns program.signals → HasKindFor program op → bz_form program op ≡ None
     → Means (columns_in program) env (bz_called program i (Some op)) (expression_of before op)
@@ -238,41 +220,26 @@ bz_reads program env i before (bz.TheVariants.Column c) know own kind none =
     record {
       of = signal_value false s.number_is;
       finds = ap env s.name_is ∙ know s.number_is s.signal s.stands ∙ ap (λ b. value (signal_value b s.number_is)) s.kind_is;
-      says = record { tree = atoms.column s.number_is; weight = 1; is = refl; over = ap atoms.column (column_by program.signals s.number_is s.signal s.stands ∙ s.column_is); weighs = refl };
+      says = record { tree = atoms.column s.number_is; is = refl; over = ap atoms.column (column_by program.signals s.number_is s.signal s.stands ∙ s.column_is); weighs = refl };
     }
 bz_reads program env i before (bz.TheVariants.IsTrue c) know own kind none =
     let s = in_column program.signals c true own kind in
     record {
       of = signal_value true s.number_is;
       finds = ap env s.name_is ∙ know s.number_is s.signal s.stands ∙ ap (λ b. value (signal_value b s.number_is)) s.kind_is;
-      says = record { tree = full.atom (atoms.is_true s.number_is); weight = 1; is = refl; over = ap (λ n. full.atom (atoms.is_true n)) (column_by program.signals s.number_is s.signal s.stands ∙ s.column_is); weighs = refl };
+      says = record { tree = full.atom (atoms.is_true s.number_is); is = refl; over = ap (λ n. full.atom (atoms.is_true n)) (column_by program.signals s.number_is s.signal s.stands ∙ s.column_is); weighs = refl };
     }
 bz_reads program env i before (bz.TheVariants.Const n) know own kind none =
-    record { of = number_value n; finds = refl; says = record { tree = atoms.constant n; weight = 1; is = refl; over = refl; weighs = refl } }
+    record { of = number_value n; finds = refl; says = record { tree = atoms.constant n; is = refl; over = refl; weighs = refl } }
 bz_reads program env i before (bz.TheVariants.Neg a) know own kind none = absurd (cc)
-bz_reads program env i before (bz.TheVariants.Add a b) know own kind none = absurd (cc)
-bz_reads program env i before (bz.TheVariants.Sub a b) know own kind none = absurd (cc)
-bz_reads program env i before (bz.TheVariants.Mul a b) know own kind none = absurd (cc)
-bz_reads program env i before (bz.TheVariants.Div a b) know own kind none = absurd (cc)
-bz_reads program env i before (bz.TheVariants.Rem a b) know own kind none = absurd (cc)
-bz_reads program env i before (bz.TheVariants.Eq a b) know own kind none = absurd (cc)
-bz_reads program env i before (bz.TheVariants.Lt a b) know own kind none = absurd (cc)
-bz_reads program env i before (bz.TheVariants.Le a b) know own kind none = absurd (cc)
+bz_reads program env i before _ know own kind none = absurd (cc)
 
 -- an operation is called by its defined name
 bz_named : (program : Program) (i : ℕ) (op : bz.BzOp) (f : Form) → bz_form program op ≡ Some f → bz_called program i (Some op) ≡ named (bz_name program i)
 bz_named program i (bz.TheVariants.Column c) f e = absurd (cc)
 bz_named program i (bz.TheVariants.IsTrue c) f e = absurd (cc)
 bz_named program i (bz.TheVariants.Const n) f e = absurd (cc)
-bz_named program i (bz.TheVariants.Neg a) f e = refl
-bz_named program i (bz.TheVariants.Add a b) f e = refl
-bz_named program i (bz.TheVariants.Sub a b) f e = refl
-bz_named program i (bz.TheVariants.Mul a b) f e = refl
-bz_named program i (bz.TheVariants.Div a b) f e = refl
-bz_named program i (bz.TheVariants.Rem a b) f e = refl
-bz_named program i (bz.TheVariants.Eq a b) f e = refl
-bz_named program i (bz.TheVariants.Lt a b) f e = refl
-bz_named program i (bz.TheVariants.Le a b) f e = refl
+bz_named program i _ f e = refl
 
 -- the lines that a rule gives from a number on
 abbrev pub lines_from : {X : Type 0} → (ℕ → X → Option Line) → ℕ → List X → List Line

@@ -113,15 +113,7 @@ called_token : (program : Program) (i : ℕ) (op : bz.BzOp) → HasAll program �
 called_token program i (bz.TheVariants.Column c) h f = column_named program.signals c false h.words.signals h.said.columns f.kind
 called_token program i (bz.TheVariants.IsTrue c) h f = column_named program.signals c true h.words.signals h.said.columns f.kind
 called_token program i (bz.TheVariants.Const n) h f = f.counted
-called_token program i (bz.TheVariants.Neg a) h f = defined_named program _ h.few
-called_token program i (bz.TheVariants.Add a b) h f = defined_named program _ h.few
-called_token program i (bz.TheVariants.Sub a b) h f = defined_named program _ h.few
-called_token program i (bz.TheVariants.Mul a b) h f = defined_named program _ h.few
-called_token program i (bz.TheVariants.Div a b) h f = defined_named program _ h.few
-called_token program i (bz.TheVariants.Rem a b) h f = defined_named program _ h.few
-called_token program i (bz.TheVariants.Eq a b) h f = defined_named program _ h.few
-called_token program i (bz.TheVariants.Lt a b) h f = defined_named program _ h.few
-called_token program i (bz.TheVariants.Le a b) h f = defined_named program _ h.few
+called_token program i _ h f = defined_named program _ h.few
 
 bz_token : (program : Program) (a : ℕ) → HasAll program → HasToken (bz_reference program a)
 bz_token program a h = go (slice_get program.bz a) refl
@@ -158,9 +150,6 @@ OptionTokens None = ⊤
 OptionTokens (Some f) = HasTokens f
 
 bz_tokens : (program : Program) (op : bz.BzOp) → HasAll program → OptionTokens (bz_form program op)
-bz_tokens program (bz.TheVariants.Column c) h = tt
-bz_tokens program (bz.TheVariants.IsTrue c) h = tt
-bz_tokens program (bz.TheVariants.Const n) h = tt
 bz_tokens program (bz.TheVariants.Neg a) h = bz_token program a h
 bz_tokens program (bz.TheVariants.Add a b) h = (bz_token program a h, bz_token program b h)
 bz_tokens program (bz.TheVariants.Sub a b) h = (bz_token program a h, bz_token program b h)
@@ -170,6 +159,7 @@ bz_tokens program (bz.TheVariants.Rem a b) h = (bz_token program a h, bz_token p
 bz_tokens program (bz.TheVariants.Eq a b) h = (bz_token program a h, bz_token program b h)
 bz_tokens program (bz.TheVariants.Lt a b) h = (bz_token program a h, bz_token program b h)
 bz_tokens program (bz.TheVariants.Le a b) h = (bz_token program a h, bz_token program b h)
+bz_tokens program _ h = tt
 
 window_numbers : (i : Interval) → is_window i ≡ true → IsNumeral (pos i.lo) × IsNumeral (pos i.hi)
 window_numbers i h =

@@ -6,7 +6,10 @@ use Rattle.tool_io.specs.declared.host.Place.TheVariants as at
 use Rattle.tool_io.specs.Host.{Rose, RoseAt}
 use Rattle.tool_words.specs.declared.status.Status as status
 use Rattle.tool_io.proofs.HostLaws.{Rose-by_one}
-use Rattle.tool_words.specs.Causes.{RunCause, NoOtherRose}
+use Rattle.c2po_compile.specs.declared.fault.CompileFault.{CompileFault}
+use Rattle.c2po_compile.specs.declared.fault.CompileFault.TheVariants as compile
+use Rattle.tool_words.specs.Causes.{RunCause, NoOtherRose, TellsNoCall}
+use Rattle.tool_words.specs.Statuses.{compile_status}
 
 -- a rise at a place other than Err
 pub rose_at : (before between now : place.Place → ℕ) (p : place.Place) → RoseAt before between p → ((q : place.Place) → q ≢ at.Err → now q ≡ between q) → NoOtherRose before now → p ≢ at.Err → ⊥
@@ -25,3 +28,9 @@ err_stays (status.TheVariants.ReadFault p) before between cause = cause.others a
 err_stays (status.TheVariants.WriteFault at.Err) before between cause = absurd cause
 err_stays (status.TheVariants.WriteFault p) before between cause = cause.others at.Err (λ e. cc)
 err_stays answer before between cause = cause at.Err
+
+-- a compilation calls no host
+pub compile_tells_no_call : (fault : CompileFault) → TellsNoCall (compile_status fault)
+compile_tells_no_call (compile.Refused line why) = tt
+compile_tells_no_call (compile.BadHeader why) = tt
+compile_tells_no_call compile.Memory = tt

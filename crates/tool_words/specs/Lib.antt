@@ -11,3 +11,4 @@ pub mod Files
 pub mod FirstLine
 pub mod FileReading
 pub mod Telling
+pub mod Ending

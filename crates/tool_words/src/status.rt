@@ -3,8 +3,9 @@
 ghost use Rattle.std.specs.Prelude.{◌≡◌};
 ghost use Rattle.tool_words.specs.Codes.{code_of};
 ghost use Rattle.tool_words.specs.Files.{file_status};
+ghost use Rattle.tool_words.specs.Statuses.{compile_status};
 
-use c2po_compile::{HeaderWhy, Refusal};
+use c2po_compile::{CompileFault, HeaderWhy, Refusal};
 use obs_files::{FileFault, ProgramFault};
 use std::alloc::AllocError;
 use tool_io::Place;
@@ -66,6 +67,18 @@ impl From<FileFault> for Status {
         match fault {
             FileFault::Program(fault) => Status::BadProgram(fault),
             FileFault::Memory => Status::Memory,
+        }
+    }
+}
+
+impl From<CompileFault> for Status {
+    ghost from_gives = { λ fault status. status ≡ compile_status fault };
+
+    fn from(fault: CompileFault) -> Status {
+        match fault {
+            CompileFault::Refused(line, why) => Status::Refused(line, why),
+            CompileFault::BadHeader(why) => Status::BadHeader(why),
+            CompileFault::Memory => Status::Memory,
         }
     }
 }

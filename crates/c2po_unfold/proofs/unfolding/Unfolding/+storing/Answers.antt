@@ -1,15 +1,14 @@
 use Rattle.std.proofs.Common.{false, ◌∙◌, ◌+◌, ◌-◌, refl, sym, subst, List, take, arith}
 use Rattle.std.proofs.lemmas.Result.{err_from_is_err_and}
-use Rattle.mltl_base.specs.Formula.{falsity}
 use Rattle.c2po_ast.specs.Shape.{shape}
-use Rattle.c2po_nodes.specs.Nodes.{formula}
 use Rattle.c2po_unfold.specs.declared.values.Stored.{Stored}
 use Rattle.c2po_unfold.specs.Environment.{value_of}
+use Rattle.c2po_unfold.specs.Values.{boolean}
 use Rattle.c2po_unfold.proofs.Later.{fits_later}
 use Rattle.c2po_unfold.specs.Heads.{Heads}
 use Rattle.c2po_unfold.specs.Holding.{Holds}
 use Rattle.c2po_unfold.specs.Summaries.{IsSummary}
-use Rattle.c2po_unfold.proofs.Members.{found_at, operator_is_leaf}
+use Rattle.c2po_unfold.proofs.Members.{found_at, holds_weight, operator_is_leaf}
 use Rattle.c2po_unfold.proofs.Loops.{BuiltSoFar, built_more, weight_within}
 use Rattle.c2po_unfold.proofs.unfolding.Unfolding.+storing.Goals as goal
 
@@ -38,7 +37,7 @@ pub store-returns-in_ok-add_leaf-in-Nothing-clause-holds : goal.store-returns-in
 store-returns-in_ok-add_leaf-in-Nothing-clause-holds t c = λ env h.
     let is = subst (λ r. Heads c.args.self.now r (value_of (shape c.args.e.now) env)) c.in-Nothing.is (c.in_ok-head.ensures.head env h) in
     subst (λ v. Holds c.add_leaf.new.self c.in_ok-add_leaf-in-Nothing.field-0 v) (sym is.2)
-    (c.in_ok-add_leaf-in-Nothing.ensures.holds (formula falsity) 1 (c.in_ok-token-in-Nothing.ensures.holds (formula falsity) (c.truth.ensures.truth false)))
+    (c.in_ok-add_leaf-in-Nothing.ensures.holds (boolean false) (c.in_ok-token-in-Nothing.ensures.holds (boolean false) refl (c.truth.ensures.truth false)))
 
 pub store-returns-in_ok-add_leaf-in-Leaf-clause-holds : goal.store-returns-in_ok-add_leaf-in-Leaf-clause-holds
 store-returns-in_ok-add_leaf-in-Leaf-clause-holds t c = λ env h.
@@ -47,4 +46,12 @@ store-returns-in_ok-add_leaf-in-Leaf-clause-holds t c = λ env h.
     let l = operator_is_leaf e g.0 g.3 in
     let found = subst (λ v. IsSummary c.in_ok-found-in-Leaf.found v) l.is (c.in_ok-found-in-Leaf.ensures.holds g.0 g.1 g.3) in
     subst (λ v. Holds c.add_leaf-in-Leaf.new.self c.in_ok-add_leaf-in-Leaf.field-0 v) (sym (g.2 ∙ l.is))
-    (c.in_ok-add_leaf-in-Leaf.ensures.holds l.tree l.load found)
+    (c.in_ok-add_leaf-in-Leaf.ensures.holds l.of found)
+
+pub store-returns-in_err-less-in-Held-clause-heavy : goal.store-returns-in_err-less-in-Held-clause-heavy
+store-returns-in_err-less-in-Held-clause-heavy t c = λ env h.
+    let p = err_from_is_err_and c.from_residual-in_err-less-in-Held.result c.from_residual-in_err-less-in-Held.ensures.1 in
+    let v = value_of (shape c.args.e.now) env in
+    let held = subst (λ r. Heads c.args.self.now r v) c.in-Held.is (c.in_ok-head.ensures.head env h) in
+    rw (p.1, p.2)
+    (λ e. omega (arith, c.in_err-less-in-Held.ensures.heavy, holds_weight v c.args.self.now c.in-Held.stored held))

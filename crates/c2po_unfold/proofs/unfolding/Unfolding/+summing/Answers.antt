@@ -1,19 +1,19 @@
-use Rattle.std.proofs.Common.{◌≡◌, ◌+◌, ◌-◌, ◌<◌, false, Some, IfOk, IfErr, map, refl, sym, subst, ap, ◌∙◌, take, length, get_or, slice_get, sum_by, arith}
+use Rattle.std.proofs.Common.{◌≡◌, ◌+◌, ◌<◌, false, Some, [], IfOk, IfErr, map, refl, sym, subst, ap, ◌∙◌, take, length, get_or, slice_get, sum_by, arith}
 use Rattle.std.proofs.lemmas.List.{take_all, length-map}
 use Rattle.std.proofs.lemmas.Result.{err_from_is_err_and}
 use Rattle.c2po_ast.specs.Shape.{shape}
 use Rattle.c2po_unfold.specs.Facts.{Tells}
-use Rattle.mltl_base.specs.Formula.{falsity}
 use Rattle.c2po_nodes.specs.Nodes.{formula}
 use Rattle.c2po_unfold.specs.declared.fault.UnfoldFault.TheVariants.{Heavy}
 use Rattle.mltl_base.specs.declared.operators.LogicOp.TheVariants.{Or}
-use Rattle.c2po_unfold.specs.Values.{weight, members, formula_of, truth_value, connected_all, counting_weight}
+use Rattle.c2po_unfold.specs.Values.{boolean, members, formula_of, truth_value, connected_all, counted}
+use Rattle.c2po_unfold.specs.Weights.{weight, counting_weight}
 use Rattle.c2po_unfold.specs.Environment.{value_of, bind}
 use Rattle.c2po_unfold.specs.Operators.{bodies_over, bodies_of, operation_value}
 use Rattle.c2po_unfold.specs.Heads.{Heads}
 use Rattle.c2po_unfold.specs.Summaries.{IsSummary, gathered}
-use Rattle.c2po_unfold.proofs.Members.{found_at}
-use Rattle.c2po_unfold.proofs.Loops.{weighed_more, weight_within, bodies_count, body_at, member_at, joined_first, joined_one, joined_next, joined_within, not_known, sum_within, counted_is_some, binary_weight, gathered_more, counted_tells}
+use Rattle.c2po_unfold.proofs.Members.{found_at, holds_weight}
+use Rattle.c2po_unfold.proofs.Loops.{weighed_more, weight_within, bodies_count, body_at, member_at, none_left, weights_back, joined_first, joined_one, joined_known, joined_within, not_known, sum_within, gathered_more, counted_tells, counted_weight}
 use Rattle.c2po_unfold.proofs.unfolding.Unfolding.+summing.Goals as goal
 
 pub binary-returns-in_err-b-clause-heavy : goal.binary-returns-in_err-b-clause-heavy
@@ -25,7 +25,6 @@ binary-returns-in_err-b-clause-heavy t c = λ env h.
       c.in_err-b.ensures.heavy env h e,
       c.in_ok-left.ensures.left,
       (c.in_ok-a.ensures.holds env h).weight,
-      binary_weight c.args.op (value_of (shape c.args.a.now) env) (value_of (shape c.args.b.now) env),
     ))
 
 pub operator-returns-in-Joined-clause-holds : goal.operator-returns-in-Joined-clause-holds
@@ -83,7 +82,7 @@ joined_bodies-loop-i-init t c = record {
       let w = value_of (shape c.args.bodies.body.now) (bind c.args.bodies.name.now v env) in
       subst (λ x. IsSummary c.as_formula-all.result x)
       (joined_one c.args.op (bodies_over c.args.bodies env s) w (body_at c.args.bodies env s v 0 at))
-      (c.as_formula-all.ensures.holds w (c.in_ok-first.ensures.holds env s v h heads at));
+      (c.as_formula-all.ensures.holds c.args.op w (c.in_ok-first.ensures.holds env s v h heads at));
 }
 
 pub joined_bodies-returns-in_err-left-clause-heavy : goal.joined_bodies-returns-in_err-left-clause-heavy
@@ -136,8 +135,7 @@ joined_bodies-loop-i-preserved t c =
           let at : slice_get (members s) i ≡ Some v = member_at (members s) i c.member_count-count.result (c.member_count-count.ensures s heads) c.loop-i-test.true in
           let bodies = bodies_over c.args.bodies env s in
           let w = value_of (shape c.args.bodies.body.now) (bind c.args.bodies.name.now v env) in
-          subst (λ x. IsSummary c.over_two-all.result x)
-          (joined_next c.args.op bodies i w (body_at c.args.bodies env s v i at) c.loop-i.auto.i)
+          joined_known c.over_two-all.result c.args.op bodies i w (body_at c.args.bodies env s v i at) c.loop-i.auto.i
           (c.over_two-all.ensures.holds (connected_all c.args.op (take i bodies)) w
           (c.loop-i.invariant.holds env s h heads)
           (c.in_ok-next.ensures.holds env s v h heads at));
@@ -204,13 +202,11 @@ counted_bodies-returns-clause-holds t c = λ env h.
     let count : c.in_ok-all.all.count ≡ length bodies = c.in_ok-all.ensures.count env h in
     let some : 0 < length bodies = omega (arith, count) in
     let beside : counting_weight c.in_ok-all.all.count c.args.number ≡ counting_weight (length bodies) c.args.number = ap (λ n. counting_weight n c.args.number) count in
-    subst (λ x. IsSummary (record { weight = (c.args.room - c.in_ok-all.all.left) + c.in_ok-gates.gates; fact = c.counted_fact.result }) x)
-    (sym (counted_is_some c.args.op c.args.number bodies some))
-    (record {
-      weight = omega (arith, c.in_ok-all.ensures.weight env h, beside, c.in_ok-gates.ensures.weight);
-      fact = counted_tells c.args.op c.in_ok-all.all.count c.args.number bodies c.counted_fact.result count
+    record {
+      weight = omega (arith, c.in_ok-all.ensures.weight env h, beside, c.in_ok-gates.ensures.weight, counted_weight c.args.op c.args.number bodies some);
+      fact = counted_tells c.args.op c.in_ok-all.all.count c.args.number bodies c.counted_fact.result some count
           (c.counted_fact.ensures (map formula_of bodies) (length-map bodies formula_of ∙ sym count) (c.in_ok-all.ensures.fact env h));
-    })
+    }
 
 pub gather-loop-i-init : goal.gather-loop-i-init
 gather-loop-i-init t c = record {
@@ -223,7 +219,7 @@ gather-loop-i-init t c = record {
 pub summary-returns-in-Nothing-clause-holds : goal.summary-returns-in-Nothing-clause-holds
 summary-returns-in-Nothing-clause-holds t c = λ env h.
     let is = subst (λ r. Heads c.args.self.now r (value_of (shape c.args.e.now) env)) c.in-Nothing.is (c.in_ok-head.ensures.head env h) in
-    subst (λ v. IfOk c.token.result (λ s. IsSummary s v)) (sym is.2) (c.token.ensures.holds (formula falsity) (c.truth.ensures.truth false))
+    subst (λ v. IfOk c.token.result (λ s. IsSummary s v)) (sym is.2) (c.token.ensures.holds (boolean false) refl (c.truth.ensures.truth false))
 
 -- what is known of the last body is known where the member is the same stored value
 pub body-returns-in_err-less-clause-heavy : goal.body-returns-in_err-less-clause-heavy
@@ -239,3 +235,50 @@ body-returns-then-is_of-clause-holds t c = λ env s v h heads at.
     let same = c.is_of.ensures c.if-is_of.true in
     let held = subst (λ head. Heads c.args.self.now head v) same.2 (c.in_ok-head.ensures.head s v heads at) in
     c.requires.known.holds env same.0 v same.1 h held
+
+pub summary-returns-in_err-less-clause-heavy : goal.summary-returns-in_err-less-clause-heavy
+summary-returns-in_err-less-clause-heavy t c = λ env h.
+    let p = err_from_is_err_and c.from_residual-in_err-less.result c.from_residual-in_err-less.ensures.1 in
+    let v = value_of (shape c.args.e.now) env in
+    rw (p.1, p.2)
+    (λ e. omega (arith, c.in_err-less.ensures.heavy, holds_weight v c.args.self.now c.in-Some.stored (c.in-Some.ensures env h)))
+
+pub summary-returns-in_err-less-in-Held-clause-heavy : goal.summary-returns-in_err-less-in-Held-clause-heavy
+summary-returns-in_err-less-in-Held-clause-heavy t c = λ env h.
+    let p = err_from_is_err_and c.from_residual-in_err-less-in-Held.result c.from_residual-in_err-less-in-Held.ensures.1 in
+    let v = value_of (shape c.args.e.now) env in
+    let held = subst (λ r. Heads c.args.self.now r v) c.in-Held.is (c.in_ok-head.ensures.head env h) in
+    rw (p.1, p.2)
+    (λ e. omega (arith, c.in_err-less-in-Held.ensures.heavy, holds_weight v c.args.self.now c.in-Held.stored held))
+
+-- quantifiers over no member
+pub joined_bodies-returns-then-count-eq0-clause-holds : goal.joined_bodies-returns-then-count-eq0-clause-holds
+joined_bodies-returns-then-count-eq0-clause-holds t c = λ env h.
+    let s = value_of (shape c.args.bodies.set.now) env in
+    let bodies = bodies_of c.args.bodies env in
+    let none : bodies ≡ [] =
+    none_left bodies c.member_count-count.result (c.member_count-count.ensures s (c.in_ok-set.ensures.head env h) ∙ sym (bodies_count c.args.bodies env s)) (omega arith) in
+    subst (λ vs. IsSummary c.none.result (connected_all c.args.op vs)) (sym none) (c.none.ensures.joined c.args.op)
+
+pub counted_bodies-returns-then-all-eq0-clause-holds : goal.counted_bodies-returns-then-all-eq0-clause-holds
+counted_bodies-returns-then-all-eq0-clause-holds t c = λ env h.
+    let bodies = bodies_of c.args.bodies env in
+    let none : bodies ≡ [] = none_left bodies c.in_ok-all.all.count (c.in_ok-all.ensures.count env h) (omega arith) in
+    subst (λ vs. IsSummary c.none.result (counted c.args.op c.args.number vs)) (sym none) (c.none.ensures.counted c.args.op c.args.number)
+
+-- a counting quantifier weighs more than its bodies
+pub counted_bodies-returns-in_err-all-clause-heavy : goal.counted_bodies-returns-in_err-all-clause-heavy
+counted_bodies-returns-in_err-all-clause-heavy t c = λ env h.
+    let p = err_from_is_err_and c.from_residual.result c.from_residual.ensures.1 in
+    rw (p.1, p.2)
+    (λ e. omega (arith, c.in_err-all.ensures.heavy env h e, weights_back (bodies_of c.args.bodies env)))
+
+pub counted_bodies-returns-in_err-gates-clause-heavy : goal.counted_bodies-returns-in_err-gates-clause-heavy
+counted_bodies-returns-in_err-gates-clause-heavy t c = λ env h.
+    let p = err_from_is_err_and c.from_residual-in_err-gates.result c.from_residual-in_err-gates.ensures.1 in
+    let bodies = bodies_of c.args.bodies env in
+    let count : c.in_ok-all.all.count ≡ length bodies = c.in_ok-all.ensures.count env h in
+    let some : 0 < length bodies = omega (arith, count) in
+    let beside : counting_weight c.in_ok-all.all.count c.args.number ≡ counting_weight (length bodies) c.args.number = ap (λ n. counting_weight n c.args.number) count in
+    rw (p.1, p.2)
+    (λ e. omega (arith, c.in_err-gates.ensures.heavy, c.in_ok-all.ensures.weight env h, beside, counted_weight c.args.op c.args.number bodies some))

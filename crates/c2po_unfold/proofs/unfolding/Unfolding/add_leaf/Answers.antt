@@ -1,8 +1,9 @@
 use Rattle.std.proofs.Common.{refl}
+use Rattle.c2po_unfold.specs.Values.{leaf_tree}
 use Rattle.c2po_unfold.proofs.unfolding.Unfolding.add_leaf.Goals as goal
 
 pub returns-clause-holds : goal.returns-clause-holds
-returns-clause-holds c = λ t w h. (
+returns-clause-holds c = λ l h. (
   h.weight,
   (
     c.in_ok-place.place,
@@ -10,6 +11,6 @@ returns-clause-holds c = λ t w h. (
     refl,
     c.in_ok-place.ensures.there,
     h.fact,
-    c.fault-fault.ensures t h.fact,
+    c.fault-fault.ensures (leaf_tree l) h.fact,
   ),
 )

@@ -7,9 +7,9 @@ use Rattle.c2po_unfold.proofs.Parts.{parts_push}
 use Rattle.c2po_unfold.proofs.unfolding.Unfolding.add_parts.Goals as goal
 
 pub returns-clause-structure : goal.returns-clause-structure
-returns-clause-structure c = λ x vs e h.
+returns-clause-structure c = λ x vs e h w.
     let own : Parts = record { whole = c.args.whole; members = c.args.members } in (
-      refl,
+      w,
       (
         c.in_ok-place.place,
         c.args.members,
@@ -23,9 +23,9 @@ returns-clause-structure c = λ x vs e h.
     )
 
 pub returns-clause-set : goal.returns-clause-set
-returns-clause-set c = λ vs e h.
+returns-clause-set c = λ vs e h w.
     let own : Parts = record { whole = c.args.whole; members = c.args.members } in (
-      refl,
+      w,
       (
         c.in_ok-place.place,
         c.args.members,

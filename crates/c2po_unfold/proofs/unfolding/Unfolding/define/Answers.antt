@@ -1,8 +1,8 @@
-use Rattle.std.proofs.Common.{refl}
+use Rattle.std.proofs.Common.{refl, arith}
 use Rattle.c2po_ast.specs.Shape.{shape}
 use Rattle.c2po_unfold.specs.Environment.{value, value_of}
 use Rattle.c2po_unfold.proofs.Later.{stands_later}
-use Rattle.c2po_unfold.proofs.Members.{holds_fault}
+use Rattle.c2po_unfold.proofs.Members.{holds_fault, holds_weight}
 use Rattle.c2po_unfold.proofs.unfolding.Unfolding.define.Goals as goal
 
 pub returns-clause-stands : goal.returns-clause-stands
@@ -14,3 +14,11 @@ returns-clause-stands c = λ env h.
 pub returns-clause-fault : goal.returns-clause-fault
 returns-clause-fault c = λ env h.
     holds_fault (value_of (shape c.args.e.now) env) c.store.new.self c.in_ok-stored.stored (c.in_ok-stored.ensures.holds env h)
+
+pub returns-clause-light : goal.returns-clause-light
+returns-clause-light c = λ env h.
+    omega (
+      arith,
+      c.in_ok-stored.ensures.light,
+      holds_weight (value_of (shape c.args.e.now) env) c.store.new.self c.in_ok-stored.stored (c.in_ok-stored.ensures.holds env h),
+    )

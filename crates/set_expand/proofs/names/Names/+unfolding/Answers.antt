@@ -1,15 +1,17 @@
-use Rattle.std.proofs.Common.{◌≡◌, ◌+◌, ℕ, false, Some, List, sym, subst, ap, ◌∙◌, get_or, slice_get, arith}
+use Rattle.std.proofs.Common.{◌≡◌, ◌+◌, ◌<◌, ℕ, false, Some, List, map, length, sym, subst, ap, ◌∙◌, get_or, slice_get, arith}
+use Rattle.std.proofs.lemmas.Grind.{common_steps}
+use Rattle.std.proofs.lemmas.List.{length-map}
 use Rattle.c2po_nodes.proofs.Pushing.{is_formula}
 use Rattle.c2po_ast.specs.Shape.{shape}
 use Rattle.c2po_unfold.specs.Values.{members, formula_of, truth_value, connected_all}
 use Rattle.c2po_unfold.specs.Environment.{value_of}
 use Rattle.c2po_unfold.specs.Operators.{bodies_over, bodies_of, body_value, operation_value}
-use Rattle.c2po_unfold.proofs.Loops.{body_at, member_at}
+use Rattle.c2po_unfold.proofs.Loops.{bodies_count, body_at, member_at}
 use Rattle.set_expand.specs.declared.nodes.Made.TheVariants as made
 use Rattle.set_expand.specs.Heads.{env_in, head_value}
-use Rattle.set_expand.specs.Nodes.{IsMade}
+use Rattle.set_expand.specs.Nodes.{HaveFormulas, IsMade}
 use Rattle.set_expand.proofs.Gates.{CountedSoFar, counted_more}
-use Rattle.set_expand.proofs.Joining.{joined_start, joined_more, made_joined}
+use Rattle.set_expand.proofs.Joining.{joined_start, joined_more, made_joined, none_joined, none_counted, some_counted}
 use Rattle.set_expand.proofs.names.Names.+unfolding.Goals as goal
 
 pub body_nodes-loop-i-preserved : goal.body_nodes-loop-i-preserved
@@ -73,3 +75,29 @@ operator-returns-in_ok-node-in-Joined-clause-made t c =
     ap (λ r. operation_value r env) (sym c.in-Joined.is) ∙ c.of.ensures env c.requires.operator in
     subst (IsMade c.joined.new.nodes (made.Formula c.in_ok-node-in-Joined.node)) same
     (made_joined c.joined.new.nodes c.in_ok-node-in-Joined.node c.in-Joined.op bodies c.in_ok-node-in-Joined.ensures.has)
+
+-- quantifiers over no member
+pub joined-returns-then-count-eq0-clause-has : goal.joined-returns-then-count-eq0-clause-has
+joined-returns-then-count-eq0-clause-has t c =
+    let env = env_in c.args.self.now c.args.at.scope.now in
+    let s = value_of (shape c.args.bodies.set.now) env in
+    let none : length (bodies_of c.args.bodies env) ≡ 0 =
+    omega (arith, bodies_count c.args.bodies env s, ap (λ v. length (members v)) c.in_ok-set.ensures.head, c.member_count-count.ensures) in
+    none_joined c.place.new.nodes c.in_ok-none.none c.args.op (bodies_of c.args.bodies env) none c.in_ok-none.ensures.has
+
+pub counted-returns-then-is_empty-clause-has : goal.counted-returns-then-is_empty-clause-has
+counted-returns-then-is_empty-clause-has t c =
+    let bodies = bodies_of c.args.bodies (env_in c.args.self.now c.args.at.scope.now) in
+    let empty : length c.in_ok-places.places.items ≡ 0 = grind (arith, common_steps) in
+    none_counted c.place.new.nodes c.in_ok-none.none c.args.op c.args.number bodies
+    (omega (arith, empty, c.in_ok-places.ensures.have.count, length-map bodies formula_of)) c.in_ok-none.ensures.has
+
+-- a counting quantifier over some
+pub counted-returns-clause-has : goal.counted-returns-clause-has
+counted-returns-clause-has t c =
+    let bodies = bodies_of c.args.bodies (env_in c.args.self.now c.args.at.scope.now) in
+    let some : 0 < length c.in_ok-places.places.items = grind (arith, common_steps) in
+    some_counted c.gates.new.nodes c.in_ok-node.node c.args.op c.args.number bodies
+    (omega (arith, some, c.in_ok-places.ensures.have.count, length-map bodies formula_of))
+    (c.in_ok-node.ensures.has (map formula_of bodies)
+    (subst (λ (ns : List ℕ). HaveFormulas c.body_nodes.new.nodes ns (map formula_of bodies)) (sym c.deref.ensures.value) c.in_ok-places.ensures.have))
