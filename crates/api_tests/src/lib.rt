@@ -2,7 +2,16 @@
 //! on a core graph at its limit, on the greatest delay, and on what command-line arguments ask a program to do.
 //!
 //! They are apart from the crates that they test, since a crate with tests is proved twice.
+//!
+//! [`compile_and_watch`] runs both programs, one after the other, over hosts in memory: `c2po` compiles a text, and `r2u2`
+//! runs what it wrote over a trace. Its contract is what the law `compiled_and_watched` says of the logs of these runs.
 #![tactic(auto)]
+
+mod compared;
+mod joined;
+
+pub use compared::Compared;
+pub use joined::compile_and_watch;
 
 #[cfg(test)]
 mod compiling;

@@ -96,9 +96,6 @@ module _ (row : Row) (before : List Expression) (numbers : List ℤ) (agree : Ag
 
   pub result_is : (op : BzOp) → Computable row before op → result_of row numbers op ≡ number_on row (expression_of before op)
   unfolding value holds
-  result_is (Column c) h = refl
-  result_is (IsTrue c) h = refl
-  result_is (Const n) h = refl
   result_is (Neg a) h = rw (at a h.0).is refl
   result_is (Add a b) h = rw ((at a h.0.0).is, (at b h.0.1).is) refl
   result_is (Sub a b) h = rw ((at a h.0.0).is, (at b h.0.1).is) refl
@@ -108,6 +105,7 @@ module _ (row : Row) (before : List Expression) (numbers : List ℤ) (agree : Ag
   result_is (Eq a b) h = rw ((at a h.0).is, (at b h.1).is) refl
   result_is (Lt a b) h = rw ((at a h.0).is, (at b h.1).is) refl
   result_is (Le a b) h = rw ((at a h.0).is, (at b h.1).is) refl
+  result_is _ h = refl
 
 -- ---- the loop
 

@@ -48,17 +48,13 @@ term-fits row before a all = term-fits-of row (slice_get before a) (all a)
 expression-fits : (row : Row) (before : List Expression) (op : BzOp) → AllFitting row before → FitsRow row op → Fitting row (Some (expression_of before op))
 unfolding FitsTerm
 expression-fits row before (Column c) all h = h
-expression-fits row before (IsTrue c) all h = tt
-expression-fits row before (Const n) all h = tt
 expression-fits row before (Neg a) all h = term-fits row before a all
 expression-fits row before (Add a b) all h = (term-fits row before a all, term-fits row before b all)
 expression-fits row before (Sub a b) all h = (term-fits row before a all, term-fits row before b all)
 expression-fits row before (Mul a b) all h = (term-fits row before a all, term-fits row before b all)
 expression-fits row before (Div a b) all h = (term-fits row before a all, term-fits row before b all)
 expression-fits row before (Rem a b) all h = (term-fits row before a all, term-fits row before b all)
-expression-fits row before (Eq a b) all h = tt
-expression-fits row before (Lt a b) all h = tt
-expression-fits row before (Le a b) all h = tt
+expression-fits row before _ all h = tt
 
 -- ---- sound instructions
 
@@ -76,8 +72,6 @@ module _ (row : Row) where
 
   can : (before : List Expression) (op : BzOp) → AllFitting row before → SoundOp (length row) before op → Computable row before op
   unfolding FitsTerm value range
-  can before (Column c) all h = h
-  can before (IsTrue c) all h = h
   can before (Const n) all h = tt
   can before (Neg a) all h = (h.0, word (negative (term_at before a)) (term-fits row before a all) h.1)
   can before (Add a b) all h = (h.0, word (plus (term_at before a) (term_at before b)) (both before a b all) h.1)
@@ -85,9 +79,7 @@ module _ (row : Row) where
   can before (Mul a b) all h = (h.0, word (times (term_at before a) (term_at before b)) (both before a b all) h.1)
   can before (Div a b) all h = (h.0, divisor-is divided (term_at before a) (term_at before b) (term-fits row before b all) h.1, word (quotient (term_at before a) (term_at before b)) (both before a b all) h.1)
   can before (Rem a b) all h = (h.0, divisor-is left_over (term_at before a) (term_at before b) (term-fits row before b all) h.1)
-  can before (Eq a b) all h = h
-  can before (Lt a b) all h = h
-  can before (Le a b) all h = h
+  can before _ all h = h
 
   all-can : (before : List Expression) (ops : List BzOp) → AllFitting row before → AllByRecursion (FitsRow row) ops → SoundOps (length row) before ops → AllCompute row before ops
   unfolding SoundOps AllCompute

@@ -1,14 +1,16 @@
 //! The state of the Booleanizer.
 
-ghost use Rattle.std.specs.Prelude.{◌≡◌, ◌<◌, length, IfOk};
+ghost use Rattle.std.specs.Prelude.{◌≡◌, ◌+◌, ◌<◌, length, IfOk};
 ghost use Rattle.mltl_base.specs.Programs.{IsFit};
 ghost use Rattle.booleanizer.specs.Evaluation.{IsTruthIn, numbers_on};
 
 use crate::evaluation::evaluate;
 use fixed_list::Fixed;
+use mltl_base::steps::Steps;
 use obs_verify::Checked;
 use std::alloc::{AllocError, Global};
 use std::marker::Model;
+use std::sync::ledger::Ledger;
 
 /// The numbers of a program's instructions on the last row, which contracts see as the list of them: integers, and
 /// Booleans as 1 and 0.
@@ -35,17 +37,19 @@ impl Bz {
         })
     }
 
-    /// Computes all instructions on a row. It does not allocate.
-    pub fn row(&mut self, checked: &Checked, fields: &[i64])
+    /// Computes all instructions on a row, in a step for each. It does not allocate.
+    pub fn row<L: Ledger>(&mut self, checked: &Checked, fields: &[i64], steps: &mut Steps<L>)
         requires len { length self.old ≡ length checked.now.bz }
         requires fit { IsFit checked.now fields.now }
         ensures numbers { self.new ≡ numbers_on fields.now checked.now.bz }
         ensures len { length self.new ≡ length checked.now.bz }
+        ensures counted { steps.new ≡ steps.old + length checked.now.bz }
     {
         evaluate(
             checked.program().bz.as_slice(),
             fields,
             self.numbers.as_mut_slice(),
+            steps,
         );
     }
 

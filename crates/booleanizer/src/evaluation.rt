@@ -1,9 +1,11 @@
 //! The numbers of the Booleanizer's instructions on a row.
 
-ghost use Rattle.std.specs.Prelude.{◌≡◌, ◌≢◌, [], pos, int_rem, length};
+ghost use Rattle.std.specs.Prelude.{◌≡◌, ◌≢◌, ◌+◌, [], pos, int_rem, length};
 ghost use Rattle.booleanizer.specs.Evaluation.{AllCompute, CanApply, numbers_on, result_of, truth_number};
 
 use mltl_base::BzOp;
+use mltl_base::steps::Steps;
+use std::sync::ledger::Ledger;
 
 fn number_of(truth: bool) -> i64
     ensures { result ≡ truth_number truth }
@@ -40,13 +42,16 @@ fn result_of(op: BzOp, row: &[i64], numbers: &[i64]) -> i64
     }
 }
 
-/// Computes the numbers of all instructions on a row: integers, and Booleans as 1 and 0. It does not allocate.
-pub fn evaluate(ops: &[BzOp], row: &[i64], numbers: &mut [i64])
+/// Computes the numbers of all instructions on a row: integers, and Booleans as 1 and 0, in a step for each. It does not
+/// allocate.
+pub fn evaluate<L: Ledger>(ops: &[BzOp], row: &[i64], numbers: &mut [i64], steps: &mut Steps<L>)
     requires len { length numbers.old ≡ length ops.now }
     requires can { AllCompute row.now [] ops.now }
-    ensures { numbers.new ≡ numbers_on row.now ops.now }
+    ensures numbers { numbers.new ≡ numbers_on row.now ops.now }
+    ensures counted { steps.new ≡ steps.old + length ops.now }
 {
     for (i, op) in ops.iter().enumerate() {
+        steps.tick();
         let number = result_of(*op, row, numbers);
         numbers[i] = number;
     }

@@ -1,23 +1,28 @@
 //! Rows that fit a program.
 
-ghost use Rattle.std.specs.Prelude.{◌≡◌, ◌↔◌, ◌⊎◌, IsTrue, FitsSigned, pos};
+ghost use Rattle.std.specs.Prelude.{◌≡◌, ◌↔◌, ◌⊎◌, ◌+◌, ◌≤◌, IsTrue, FitsSigned, length, pos};
 ghost use Rattle.std.specs.Int.{w32};
 ghost use Rattle.mltl_base.specs.Atoms.{in_column as value_in};
 ghost use Rattle.mltl_base.specs.Programs.{FitsRow, IsFit};
 
 use mltl_base::BzOp;
+use mltl_base::steps::Steps;
 use obs_verify::Checked;
+use std::sync::ledger::Ledger;
 
 /// Whether the fields are a row of the program: as many as it is wide, and in each column that it reads a value of
-/// its kind, which is a number of 32 bits with a sign, or 0 or 1 for a Boolean.
-pub fn is_fit(checked: &Checked, fields: &[i64]) -> bool
-    ensures { IsTrue result ↔ IsFit checked.now fields.now }
+/// its kind, which is a number of 32 bits with a sign, or 0 or 1 for a Boolean. Its steps are the instructions that it looks
+/// at, of which each reads a column at most.
+pub fn is_fit<L: Ledger>(checked: &Checked, fields: &[i64], steps: &mut Steps<L>) -> bool
+    ensures fit { IsTrue result ↔ IsFit checked.now fields.now }
+    ensures counted { steps.new ≤ steps.old + length checked.now.bz }
 {
     let program = checked.program();
     if fields.len() != program.width as usize {
         return false;
     }
     for op in program.bz.as_slice() {
+        steps.tick();
         if !fits(op, fields) {
             return false;
         }

@@ -4,3 +4,4 @@ pub mod Stretching
 pub mod Moving
 pub mod Placing
 pub mod Draining
+mod Looking

@@ -1,6 +1,6 @@
 -- Where the search for open reports goes on, after the same rows.
 
-use Rattle.std.specs.Prelude.{ℕ, ◌≡◌, ◌+◌, ◌<◌, IsSome, Some, List, length, slice_get}
+use Rattle.std.specs.Prelude.{ℕ, ◌≡◌, ◌+◌, ◌-◌, ◌<◌, ◌≤◌, Option, IsSome, Some, None, List, length, slice_get}
 use Rattle.mltl_base.specs.declared.program.Out.{Out}
 use Rattle.mltl_base.specs.declared.program.Program.{Program}
 use Rattle.mltl_base.specs.declared.report.Report.{Report}
@@ -46,3 +46,12 @@ abbrev pub KeepsStretch : Program → List Row → Report → Cursor → Type 0
 KeepsStretch program rows report after =
     (output : Out) → slice_get program.outs report.out ≡ Some output
     → slice_get (known_words program rows output) (report.time + 1) ≡ Some report.word → IsSome after.stretch
+
+-- how many outputs a search from the cursor on may still look at
+abbrev pub outs_after : List ℕ → Cursor → ℕ
+outs_after next_times cursor = length next_times - cursor.out
+
+-- a search among so many outputs, from `first` on, takes a step for each output up to the one that it finds, at most
+abbrev pub LooksOnward : ℕ → ℕ → Option (ℕ × Stretch) → ℕ → ℕ → Type 0
+LooksOnward outs first (Some (k, stretch)) before after = after + (outs - k) ≤ before + (outs - first) + 1
+LooksOnward outs first None before after = after ≤ before + (outs - first)

@@ -9,9 +9,11 @@ ghost use Rattle.mltl_base.specs.declared.interval.Engine.TheVariants.{Pt as pas
 
 use crate::cursor::Cursor;
 use ft_engine::Ft;
+use mltl_base::steps::Steps;
 use mltl_base::{Engine, Out, Program, Style, Word};
 use pt_boxes::Pt;
 use scq_ring::Seen;
+use std::sync::ledger::Ledger;
 
 /// Both engines of a program, and the number of rows that they have taken.
 #[derive(Clone, Copy)]
@@ -46,7 +48,7 @@ impl Stretch {
 }
 
 impl Engines<'_> {
-    ghost use Rattle.contract_status.specs.Cursors.{FitsEngines};
+    ghost use Rattle.contract_status.specs.Cursors.{FitsEngines, LooksOnward};
     ghost use Rattle.contract_status.specs.Stretches.{AreReadable, AreTold, CanRead, CanReport, FindsOpen, HaveTaken, IsLongestStretch, ShowsVerdicts, ShowsWords, contract_words, formula_words, known_verdicts, known_words};
     ghost use Rattle.contract_status.specs.Open.{AreKnown};
     ghost use Rattle.contract_status.specs.declared.engines.Stretch.{Stretch as Found};
@@ -153,13 +155,15 @@ impl Engines<'_> {
         }
     }
 
-    /// The first output from `first` on with a known word at its next time, and the longest stretch of it.
+    /// The first output from `first` on with a known word at its next time, and the longest stretch of it. Its steps are the
+    /// outputs that it looks at.
     #[inline(always)]
-    pub fn first_open(
+    pub fn first_open<L: Ledger>(
         &self,
         program: &Program,
         next_times: &[u64],
         first: usize,
+        steps: &mut Steps<L>,
     ) -> Option<(usize, Stretch)>
         requires readable { AreReadable program.now self.now next_times.now }
         requires same_length { length next_times.now ≡ length program.now.outs }
@@ -169,8 +173,10 @@ impl Engines<'_> {
         ensures finds { (rows : List Row) → HaveTaken program.now rows self.now
             → AreKnown program.now rows next_times.now
             → FindsOpen program.now rows next_times.now result }
+        ensures counted { LooksOnward (length next_times.now) first result steps.old steps.new }
     {
         for k in first..program.outs.len() {
+            steps.tick();
             if let Some(stretch) = self.stretch_from(program.outs.get(k), next_times[k]) {
                 return Some((k, stretch));
             }
@@ -180,11 +186,12 @@ impl Engines<'_> {
 
     /// The first output with a known word at its next time, and the longest stretch of it; the search goes on at a cursor.
     #[inline(always)]
-    pub fn next_open(
+    pub fn next_open<L: Ledger>(
         &self,
         program: &Program,
         next_times: &[u64],
         cursor: Cursor,
+        steps: &mut Steps<L>,
     ) -> Option<(usize, Stretch)>
         requires readable { AreReadable program.now self.now next_times.now }
         requires same_length { length next_times.now ≡ length program.now.outs }
@@ -194,10 +201,12 @@ impl Engines<'_> {
             → FindsOpen program.now rows next_times.now result }
         ensures goes_on { (stretch : Found) → cursor.stretch ≡ Some stretch
             → result ≡ Some (cursor.out, stretch) }
+        ensures counted { LooksOnward (length next_times.now) cursor.out result
+            steps.old steps.new }
     {
         match cursor.stretch {
             Some(stretch) => Some((cursor.out, stretch)),
-            None => self.first_open(program, next_times, cursor.out),
+            None => self.first_open(program, next_times, cursor.out, steps),
         }
     }
 }

@@ -1,25 +1,29 @@
 //! The first report that is open.
 
-ghost use Rattle.std.specs.Prelude.{◌≡◌, ◌^◌, ◌≤◌, List, IfSome, IsNone, length};
+ghost use Rattle.std.specs.Prelude.{◌≡◌, ◌+◌, ◌^◌, ◌≤◌, List, IfSome, IsNone, length};
 ghost use Rattle.mltl_base.specs.declared.limits.TheConstants.{MAX_MISSION};
 ghost use Rattle.mltl_base.specs.Atoms.{Row};
-ghost use Rattle.contract_status.specs.Cursors.{FitsEngines, KeepsStretch, MovesPast};
+ghost use Rattle.contract_status.specs.Cursors.{FitsEngines, KeepsStretch, MovesPast, outs_after};
 ghost use Rattle.contract_status.specs.Standing.{GivesNext, StandFor};
 
 use crate::cursor::Cursor;
 use crate::engines::Engines;
+use mltl_base::steps::Steps;
 use mltl_base::{Report, Style};
 use obs_verify::Checked;
+use std::sync::ledger::Ledger;
 
 /// Gives the first report that the outputs' next times leave open, and moves its output's next time past it. `None`, and no
-/// change of these times, where none is open. The search goes on at the cursor, which is past all outputs then.
+/// change of these times, where none is open. The search goes on at the cursor, which is past all outputs then. Its steps
+/// are itself and the outputs that it looks at.
 #[inline(always)]
-pub fn tell_first(
+pub fn tell_first<L: Ledger>(
     style: Style,
     checked: &Checked,
     engines: &Engines,
     next_times: &mut [u64],
     cursor: &mut Cursor,
+    steps: &mut Steps<L>,
 ) -> Option<Report>
     requires early { engines.now.rows ≤ MAX_MISSION }
     requires stands { (rows : List Row) × StandFor checked.now rows engines.now.rows
@@ -34,8 +38,11 @@ pub fn tell_first(
         engines.now.ft.now engines.now.pt.now next_times.old
         → IfSome result (λ report. KeepsStretch checked.now rows report cursor.new) }
     ensures past { IsNone result → cursor.new.out ≡ length next_times.old }
+    ensures counted { steps.new + outs_after next_times.old cursor.new
+        ≤ steps.old + outs_after next_times.old cursor.old + 2 }
 {
-    match engines.next_open(checked.program(), next_times, *cursor) {
+    steps.tick();
+    match engines.next_open(checked.program(), next_times, *cursor, steps) {
         None => {
             *cursor = Cursor::past(next_times.len());
             None

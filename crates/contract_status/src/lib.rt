@@ -9,5 +9,5 @@ mod line;
 mod outs;
 
 pub use cursor::Cursor;
-pub use line::{line_of, put_line};
+pub use line::{line_of, write_line};
 pub use outs::Outs;

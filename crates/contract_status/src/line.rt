@@ -1,19 +1,16 @@
 //! The lines of reports.
 
-ghost use Rattle.std.specs.Prelude.{◌≡◌, ◌+◌, ◌^◌, ◌<◌, ◌≤◌, ◌++◌, length, decimal, slice_get, Some};
+ghost use Rattle.std.specs.Prelude.{◌≡◌, ◌+◌, ◌^◌, ◌<◌, ◌≤◌, ◌∷◌, ◌++◌, codes, drop, length};
 ghost use Rattle.mltl_base.specs.declared.limits.TheConstants.{TIME_END};
 ghost use Rattle.arrayvec.specs.ArrayVec.{array_vec_len};
 ghost use Rattle.mltl_base.specs.Lines.{line, word_text};
 ghost use Rattle.mltl_base.specs.Programs.{output_names};
 
 use arrayvec::ArrayVec;
-use itoa::Buffer;
+use itoa::write_digits;
 use mltl_base::text::add;
 use mltl_base::{Report, Word};
 use obs_verify::Checked;
-
-/// The bytes of a line, at most 88 of them: a name, a time of at most 13 digits, a word and three signs.
-type Line = ArrayVec<u8, 128>;
 
 /// The line of a report: the name of its output, its time and its word, with a newline.
 pub fn line_of(report: &Report, checked: &Checked) -> ArrayVec<u8, 128>
@@ -22,40 +19,69 @@ pub fn line_of(report: &Report, checked: &Checked) -> ArrayVec<u8, 128>
     ensures line { result.items ≡ line (output_names checked.now) report.now }
     ensures short { array_vec_len result ≤ 88 }
 {
+    let mut room = [0; 128];
+    let start = write_line(&mut room, report, checked);
     let mut text = ArrayVec::new();
-    put_line(&mut text, report, checked);
+    add(&mut text, &room[start..]);
     text
 }
 
-/// Puts the line of a report in the place of what the text holds.
-pub fn put_line(text: &mut ArrayVec<u8, 128>, report: &Report, checked: &Checked)
+/// Writes the line of a report at the end of the room, and returns where it starts. A line has at most 88 bytes: a name, a
+/// time of at most 13 digits, a word and three signs. It is written from its last byte on, so that no digit is moved.
+#[inline(always)]
+pub fn write_line(room: &mut [u8; 128], report: &Report, checked: &Checked) -> usize
     requires exists { report.now.out < length checked.now.outs }
     requires early { report.now.time < TIME_END }
-    ensures line { text.new.items ≡ line (output_names checked.now) report.now }
-    ensures short { array_vec_len text.new ≤ 88 }
+    ensures line { drop result room.new ≡ line (output_names checked.now) report.now }
+    ensures within { result ≤ 128 }
+    ensures short { 40 ≤ result }
 {
-    // The digits come first, since a copy of bytes that were only just stored has to wait for them.
-    let mut buffer = Buffer::new();
-    let time = buffer.format(report.time).as_bytes();
-    *text = ArrayVec::new();
+    let word = write_word(room, report.word);
+    let comma = write_byte(room, word, b',');
+    let time = write_digits(report.time, room, comma);
+    let colon = write_byte(room, time, b':');
     let out = checked.program().outs.get(report.out as usize);
-    add(text, out.name().bytes());
-    text.push(b':');
-    add(text, time);
-    text.push(b',');
-    add_word(text, report.word);
-    text.push(b'\n');
+    write_bytes(room, colon, out.name().bytes())
 }
 
-/// Puts a word after a line that has room for it. The words of formulas have one byte.
-fn add_word(text: &mut Line, word: Word)
-    requires room { array_vec_len text.old + 8 ≤ 128 }
-    ensures items { text.new.items ≡ text.old.items ++ word_text word }
-    ensures len { array_vec_len text.new ≤ array_vec_len text.old + 8 }
+/// Writes a word and a newline at the end of the room, and returns where the word starts. The words of formulas have one
+/// byte.
+#[inline(always)]
+fn write_word(room: &mut [u8; 128], word: Word) -> usize
+    ensures written { drop result room.new ≡ word_text word ++ codes "\n" }
+    ensures within { result ≤ 128 }
+    ensures short { 119 ≤ result }
 {
+    let end = write_byte(room, 128, b'\n');
     match word {
-        Word::T => text.push(b'T'),
-        Word::F => text.push(b'F'),
-        _ => add(text, word.text().as_bytes()),
+        Word::T => write_byte(room, end, b'T'),
+        Word::F => write_byte(room, end, b'F'),
+        _ => write_bytes(room, end, word.text().as_bytes()),
     }
+}
+
+/// Writes a byte before what begins at `end`, and returns where it is.
+#[inline(always)]
+fn write_byte(room: &mut [u8; 128], end: usize, byte: u8) -> usize
+    requires some { 0 < end }
+    requires within { end ≤ 128 }
+    ensures start { result + 1 ≡ end }
+    ensures written { drop result room.new ≡ byte ∷ drop end room.old }
+{
+    let start = end - 1;
+    room[start] = byte;
+    start
+}
+
+/// Writes bytes before what begins at `end`, and returns where they start.
+#[inline(always)]
+fn write_bytes(room: &mut [u8; 128], end: usize, bytes: &[u8]) -> usize
+    requires fits { length bytes.now ≤ end }
+    requires within { end ≤ 128 }
+    ensures start { result + length bytes.now ≡ end }
+    ensures written { drop result room.new ≡ bytes.now ++ drop end room.old }
+{
+    let start = end - bytes.len();
+    room[start..end].copy_from_slice(bytes);
+    start
 }

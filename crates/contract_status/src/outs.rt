@@ -5,11 +5,13 @@ use crate::engines::Engines;
 use crate::first_report::tell_first;
 use fixed_list::Fixed;
 use ft_engine::Ft;
+use mltl_base::steps::Steps;
 use mltl_base::{Report, Style};
 use obs_verify::Checked;
 use pt_boxes::Pt;
 use std::alloc::{AllocError, Global};
 use std::marker::Model;
+use std::sync::ledger::Ledger;
 
 /// The outputs of a program: the next time of each, counted in rows from 0. Contracts see these times in order.
 #[derive(Drop)]
@@ -26,12 +28,12 @@ impl Model for Outs {
 }
 
 impl Outs {
-    ghost use Rattle.std.specs.Prelude.{◌≡◌, ◌^◌, ◌≤◌, ◌↔◌, List, [], length, replicate, IfOk, IfSome, IsNone, IsTrue};
+    ghost use Rattle.std.specs.Prelude.{◌≡◌, ◌+◌, ◌^◌, ◌≤◌, ◌↔◌, List, [], length, replicate, IfOk, IfSome, IsNone, IsTrue};
     ghost use Rattle.mltl_base.specs.declared.limits.TheConstants.{MAX_MISSION};
     ghost use Rattle.mltl_base.specs.declared.report.Style.{Style as Form};
     ghost use Rattle.mltl_base.specs.declared.report.Style.TheVariants.{Each as each, Runs as runs};
     ghost use Rattle.mltl_base.specs.Atoms.{Row};
-    ghost use Rattle.contract_status.specs.Cursors.{FitsCursor, KeepsStretch, MovesPast};
+    ghost use Rattle.contract_status.specs.Cursors.{FitsCursor, KeepsStretch, MovesPast, outs_after};
     ghost use Rattle.contract_status.specs.Open.{ArePlaced, known_counts_of, open_of};
     ghost use Rattle.contract_status.specs.Standing.{GivesNext, StandFor};
 
@@ -53,27 +55,44 @@ impl Outs {
     }
 
     /// The first report that is open after `n` rows, one for each time. `None` exactly where none is open.
-    pub fn next(&mut self, checked: &Checked, ft: &Ft, pt: &Pt, n: u64) -> Option<Report>
+    pub fn next<L: Ledger>(
+        &mut self,
+        checked: &Checked,
+        ft: &Ft,
+        pt: &Pt,
+        n: u64,
+        steps: &mut Steps<L>,
+    ) -> Option<Report>
         requires early { n ≤ MAX_MISSION }
         requires stands { (rows : List Row) × StandFor checked.now rows n ft.now pt.now self.old }
-        ensures { GivesNext each checked.now n ft.now pt.now result self.old self.new }
+        ensures gives { GivesNext each checked.now n ft.now pt.now result self.old self.new }
+        ensures counted { steps.new ≤ steps.old + length self.old + 2 }
     {
-        self.next_at(Style::Each, &mut Cursor::start(), checked, ft, pt, n)
+        self.next_at(Style::Each, &mut Cursor::start(), checked, ft, pt, n, steps)
     }
 
     /// The first report that is open after `n` rows, one for each longest stretch of one word. `None` exactly where
     /// none is open.
-    pub fn next_run(&mut self, checked: &Checked, ft: &Ft, pt: &Pt, n: u64) -> Option<Report>
+    pub fn next_run<L: Ledger>(
+        &mut self,
+        checked: &Checked,
+        ft: &Ft,
+        pt: &Pt,
+        n: u64,
+        steps: &mut Steps<L>,
+    ) -> Option<Report>
         requires early { n ≤ MAX_MISSION }
         requires stands { (rows : List Row) × StandFor checked.now rows n ft.now pt.now self.old }
-        ensures { GivesNext runs checked.now n ft.now pt.now result self.old self.new }
+        ensures gives { GivesNext runs checked.now n ft.now pt.now result self.old self.new }
+        ensures counted { steps.new ≤ steps.old + length self.old + 2 }
     {
-        self.next_at(Style::Runs, &mut Cursor::start(), checked, ft, pt, n)
+        self.next_at(Style::Runs, &mut Cursor::start(), checked, ft, pt, n, steps)
     }
 
-    /// The first report that is open after `n` rows, in a style. The search goes on at the cursor of these rows.
+    /// The first report that is open after `n` rows, in a style. The search goes on at the cursor of these rows. Its steps are
+    /// itself and the outputs that it looks at, of which the next search looks at the last one alone again.
     #[inline(always)]
-    pub fn next_at(
+    pub fn next_at<L: Ledger>(
         &mut self,
         style: Style,
         cursor: &mut Cursor,
@@ -81,6 +100,7 @@ impl Outs {
         ft: &Ft,
         pt: &Pt,
         n: u64,
+        steps: &mut Steps<L>,
     ) -> Option<Report>
         requires early { n ≤ MAX_MISSION }
         requires stands { (rows : List Row) × StandFor checked.now rows n ft.now pt.now self.old }
@@ -91,33 +111,59 @@ impl Outs {
         ensures keeps { (rows : List Row) → StandFor checked.now rows n ft.now pt.now self.old
             → IfSome result (λ report. KeepsStretch checked.now rows report cursor.new) }
         ensures past { IsNone result → cursor.new.out ≡ length self.old }
+        ensures counted { steps.new + outs_after self.old cursor.new
+            ≤ steps.old + outs_after self.old cursor.old + 2 }
     {
         let engines = Engines { ft, pt, rows: n };
-        tell_first(style, checked, &engines, self.times.as_mut_slice(), cursor)
+        tell_first(
+            style,
+            checked,
+            &engines,
+            self.times.as_mut_slice(),
+            cursor,
+            steps,
+        )
     }
 
     /// Whether no report is open after `n` rows, in either style.
-    pub fn drained(&self, checked: &Checked, ft: &Ft, pt: &Pt, n: u64) -> bool
+    pub fn drained<L: Ledger>(
+        &self,
+        checked: &Checked,
+        ft: &Ft,
+        pt: &Pt,
+        n: u64,
+        steps: &mut Steps<L>,
+    ) -> bool
         requires stands { (rows : List Row) × StandFor checked.now rows n ft.now pt.now self.now }
         ensures drained { (style : Form) (rows : List Row)
             → StandFor checked.now rows n ft.now pt.now self.now
             → IsTrue result ↔ (open_of style checked.now rows self.now ≡ []) }
+        ensures counted { steps.new ≤ steps.old + length self.now + 1 }
     {
-        self.drained_at(Cursor::start(), checked, ft, pt, n)
+        self.drained_at(Cursor::start(), checked, ft, pt, n, steps)
     }
 
     /// Whether no report is open after `n` rows, in either style. It looks at no output before the cursor's, of these rows, so at
-    /// none where `next_at` gave `None`.
+    /// none where `next_at` gave `None`. Its steps are the outputs that it looks at.
     #[inline(always)]
-    pub fn drained_at(&self, cursor: Cursor, checked: &Checked, ft: &Ft, pt: &Pt, n: u64) -> bool
+    pub fn drained_at<L: Ledger>(
+        &self,
+        cursor: Cursor,
+        checked: &Checked,
+        ft: &Ft,
+        pt: &Pt,
+        n: u64,
+        steps: &mut Steps<L>,
+    ) -> bool
         requires stands { (rows : List Row) × StandFor checked.now rows n ft.now pt.now self.now }
         requires cursor { FitsCursor checked.now n ft.now pt.now self.now cursor }
         ensures drained { (style : Form) (rows : List Row)
             → StandFor checked.now rows n ft.now pt.now self.now
             → IsTrue result ↔ (open_of style checked.now rows self.now ≡ []) }
+        ensures counted { steps.new ≤ steps.old + outs_after self.now cursor + 1 }
     {
         let engines = Engines { ft, pt, rows: n };
-        let open = engines.next_open(checked.program(), self.times.as_slice(), cursor);
+        let open = engines.next_open(checked.program(), self.times.as_slice(), cursor, steps);
         open.is_none()
     }
 }

@@ -36,17 +36,13 @@ pub logic_verdicts : (op : logic_op.LogicOp) (p q u v : Tree) (rows : List Row) 
     verdicts rows (logic op (as_formula p) (as_formula q)) ≡ known_front (k_logic op (slice_get ps) (slice_get qs)) (length rows)
 unfolding verdicts kleene_over
 logic_verdicts logic_op.TheVariants.And p q u v rows ps qs e f g h = rw (e, f, g, h) refl
-logic_verdicts logic_op.TheVariants.Or p q u v rows ps qs e f g h = rw (e, f, g, h) refl
-logic_verdicts logic_op.TheVariants.Implies p q u v rows ps qs e f g h = rw (e, f, g, h) refl
-logic_verdicts logic_op.TheVariants.Iff p q u v rows ps qs e f g h = rw (e, f, g, h) refl
+logic_verdicts _ p q u v rows ps qs e f g h = rw (e, f, g, h) refl
 
 pub window_verdicts : (op : window_op.WindowOp) (i : Interval) (p u : Tree) (rows : List Row) (ps : List Bool) → ps ≡ verdicts rows (as_formula u) → u ≡ p →
     verdicts rows (window_formula op i (as_formula p)) ≡ known_front (k_window op i (slice_get ps)) (length rows)
 unfolding verdicts kleene_over
 window_verdicts window_op.TheVariants.F i p u rows ps e g = rw (e, g) refl
-window_verdicts window_op.TheVariants.G i p u rows ps e g = rw (e, g) refl
-window_verdicts window_op.TheVariants.O i p u rows ps e g = rw (e, g) refl
-window_verdicts window_op.TheVariants.H i p u rows ps e g = rw (e, g) refl
+window_verdicts _ i p u rows ps e g = rw (e, g) refl
 
 pub between_verdicts : (op : between_op.BetweenOp) (i : Interval) (p q u v : Tree) (rows : List Row) (ps qs : List Bool) → ps ≡ verdicts rows (as_formula u) → qs ≡ verdicts rows (as_formula v) → u ≡ p → v ≡ q →
     verdicts rows (between op i (as_formula p) (as_formula q)) ≡ known_front (k_between op i (slice_get ps) (slice_get qs)) (length rows)

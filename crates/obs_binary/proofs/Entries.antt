@@ -38,17 +38,7 @@ second_is x y e = ap (λ p. p.1) (same_Some x y e)
 bz_len : (op : BzOp) → length (bz_entry op) ≡ 24
 unfolding bz_entry u32_bytes i64_bytes
 bz_len (bz.Column c) = refl
-bz_len (bz.IsTrue c) = refl
-bz_len (bz.Const v) = refl
-bz_len (bz.Neg a) = refl
-bz_len (bz.Add a b) = refl
-bz_len (bz.Sub a b) = refl
-bz_len (bz.Mul a b) = refl
-bz_len (bz.Div a b) = refl
-bz_len (bz.Rem a b) = refl
-bz_len (bz.Eq a b) = refl
-bz_len (bz.Lt a b) = refl
-bz_len (bz.Le a b) = refl
+bz_len _ = refl
 
 bz_holds : (op : BzOp) → IsBytes (bz_entry op) → bz_content (bz_entry op) ≡ Some op → FitsBz op
 unfolding bz_entry bz_content u32_bytes i64_bytes
@@ -91,10 +81,7 @@ bz_entries = record { len_is = bz_len; holds = bz_holds; again = bz_again }
 ft_len : (e : FtOp × ℕ) → length (ft_entry e) ≡ 24
 unfolding ft_entry u32_bytes
 ft_len (ft.True, size) = refl
-ft_len (ft.Load a, size) = refl
-ft_len (ft.Not a, size) = refl
-ft_len (ft.And a b, size) = refl
-ft_len (ft.Until a b i, size) = refl
+ft_len _ = refl
 
 abbrev pub HoldsFt : FtOp × ℕ → Type 0
 HoldsFt e = FitsFt e.0 × (e.1 < 2 ^ 32)
@@ -131,10 +118,7 @@ ft_entries = record { len_is = ft_len; holds = ft_holds; again = ft_again }
 pt_len : (e : PtOp × ℕ) → length (pt_entry e) ≡ 24
 unfolding pt_entry u32_bytes
 pt_len (pt.True, size) = refl
-pt_len (pt.Load a, size) = refl
-pt_len (pt.Not a, size) = refl
-pt_len (pt.And a b, size) = refl
-pt_len (pt.Since a b i, size) = refl
+pt_len _ = refl
 
 abbrev pub HoldsPt : PtOp × ℕ → Type 0
 HoldsPt e = FitsPt e.0 × (e.1 < 2 ^ 32)

@@ -10,26 +10,12 @@ use Rattle.obs_binary.specs.Reading.{◌>>=◌, FailsWith, each_at, named, is_na
 -- a call that answers the fault of reading
 pub Fails-same : {Y : Type 0} (fault : ReadFault) (read : Result Y ReadFault) → read ≡ Err fault → FailsWith fault read
 Fails-same Memory read e = tt
-Fails-same Short read e = e
-Fails-same Magic read e = e
-Fails-same Version read e = e
-Fails-same (Reserved k) read e = e
-Fails-same (Opcode k) read e = e
-Fails-same Trailing read e = e
-Fails-same (NameBytes k) read e = e
-Fails-same (SignalBytes k) read e = e
+Fails-same _ read e = e
 
 -- a step whose fault is the fault of the whole
 pub Fails-onto : {Y Z : Type 0} (fault : ReadFault) (step : Result Y ReadFault) (whole : Result Z ReadFault) → FailsWith fault step → (step ≡ Err fault → whole ≡ Err fault) → FailsWith fault whole
 Fails-onto Memory step whole f onto = tt
-Fails-onto Short step whole f onto = onto f
-Fails-onto Magic step whole f onto = onto f
-Fails-onto Version step whole f onto = onto f
-Fails-onto (Reserved k) step whole f onto = onto f
-Fails-onto (Opcode k) step whole f onto = onto f
-Fails-onto Trailing step whole f onto = onto f
-Fails-onto (NameBytes k) step whole f onto = onto f
-Fails-onto (SignalBytes k) step whole f onto = onto f
+Fails-onto _ step whole f onto = onto f
 
 -- ---- entries
 

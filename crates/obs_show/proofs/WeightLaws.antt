@@ -61,9 +61,6 @@ whole_at : (es : List Expression) (a : ℕ) → IsWhole es a → ReadsWhole es a
 whole_at es a h = whole_of es a (slice_get es a) refl h
 
 pub sound_reads : (width : ℕ) (es : List Expression) (op : BzOp) → SoundOp width es op → ReadsBefore (length es) op
-sound_reads width es (Column c) h = tt
-sound_reads width es (IsTrue c) h = tt
-sound_reads width es (Const n) h = tt
 sound_reads width es (Neg a) h = (whole_at es a h.0).within
 sound_reads width es (Add a b) h = ((whole_at es a h.0.0).within, (whole_at es b h.0.1).within)
 sound_reads width es (Sub a b) h = ((whole_at es a h.0.0).within, (whole_at es b h.0.1).within)
@@ -73,15 +70,13 @@ sound_reads width es (Rem a b) h = ((whole_at es a h.0.0).within, (whole_at es b
 sound_reads width es (Eq a b) h = ((whole_at es a h.0).within, (whole_at es b h.1).within)
 sound_reads width es (Lt a b) h = ((whole_at es a h.0).within, (whole_at es b h.1).within)
 sound_reads width es (Le a b) h = ((whole_at es a h.0).within, (whole_at es b h.1).within)
+sound_reads width es _ h = tt
 
 two : (es : List Expression) (a b : ℕ) → IsWhole es a → IsWhole es b → operator_weight (slice_index (map told es) a) (slice_index (map told es) b) ≡ capped (1 + term_weight (term_at es a) + term_weight (term_at es b))
 two es a b h k = joins _ _ _ _ (whole_at es a h).is (whole_at es b k).is
 
 sound_weight : (width : ℕ) (es : List Expression) (op : BzOp) → SoundOp width es op → bz_weight (map told es) op ≡ told (expression_of es op)
 unfolding term_weight
-sound_weight width es (Column c) h = refl
-sound_weight width es (IsTrue c) h = refl
-sound_weight width es (Const n) h = refl
 sound_weight width es (Neg a) h = joins_one _ _ (whole_at es a h.0).is
 sound_weight width es (Add a b) h = two es a b h.0.0 h.0.1
 sound_weight width es (Sub a b) h = two es a b h.0.0 h.0.1
@@ -91,6 +86,7 @@ sound_weight width es (Rem a b) h = two es a b h.0.0 h.0.1
 sound_weight width es (Eq a b) h = two es a b h.0 h.1
 sound_weight width es (Lt a b) h = two es a b h.0 h.1
 sound_weight width es (Le a b) h = two es a b h.0 h.1
+sound_weight width es _ h = refl
 
 -- the first instructions are weighed
 pub record BzWeighed (width : ℕ) (ops : List BzOp) (i : ℕ) (weights : List ℕ) : Type 0 where

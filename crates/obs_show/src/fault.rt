@@ -2,7 +2,7 @@
 
 ghost use Rattle.std.specs.Prelude.{◌≡◌};
 
-use std::alloc::{AllocError, AllocFailed};
+use std::alloc::AllocError;
 
 /// Why a program has no text.
 #[derive(Clone, Copy)]
@@ -20,16 +20,6 @@ impl From<AllocError> for ShowFault {
     ghost from_gives = { λ _ fault. fault ≡ Memory };
 
     fn from(_refused: AllocError) -> ShowFault {
-        ShowFault::Memory
-    }
-}
-
-impl<T: Drop> From<AllocFailed<T>> for ShowFault {
-    ghost use Rattle.obs_show.specs.declared.fault.ShowFault.TheVariants.{Memory};
-
-    ghost from_gives = { λ _ fault. fault ≡ Memory };
-
-    fn from(_refused: AllocFailed<T>) -> ShowFault {
         ShowFault::Memory
     }
 }

@@ -72,9 +72,6 @@ whole_inside program i a h = elim (cases_lt a i) [
 ]
 
 pub reads_before : (program : Program) (i : ℕ) (op : BzOp) → has_operands program i op ≡ true → ReadsBefore i op
-reads_before program i (Column c) h = tt
-reads_before program i (IsTrue c) h = tt
-reads_before program i (Const n) h = tt
 reads_before program i (Neg a) h = whole_inside program i a h
 reads_before program i (Add a b) h = (whole_inside program i a (and_left _ _ h), whole_inside program i b (and_right _ _ h))
 reads_before program i (Sub a b) h = (whole_inside program i a (and_left _ _ h), whole_inside program i b (and_right _ _ h))
@@ -84,6 +81,7 @@ reads_before program i (Rem a b) h = (whole_inside program i a (and_left _ _ h),
 reads_before program i (Eq a b) h = (whole_inside program i a (and_left _ _ h), whole_inside program i b (and_right _ _ h))
 reads_before program i (Lt a b) h = (whole_inside program i a (and_left _ _ h), whole_inside program i b (and_right _ _ h))
 reads_before program i (Le a b) h = (whole_inside program i a (and_left _ _ h), whole_inside program i b (and_right _ _ h))
+reads_before program i _ h = tt
 
 operand : (bz : List BzOp) (ranges : List Range) (a : ℕ) → AreRanges bz ranges → a < length ranges
     → range_at ranges a ≡ range (term_at (take (length ranges) (expressions bz)) a)
@@ -93,18 +91,13 @@ operand bz ranges a known inside = sym (ap range (term_at-take (expressions bz) 
 range_of_expression : (bz : List BzOp) (ranges : List Range) (op : BzOp) → AreRanges bz ranges → ReadsBefore (length ranges) op
     → range_over ranges op ≡ range (expression_term (Some (expression_of (take (length ranges) (expressions bz)) op)))
 unfolding range
-range_of_expression bz ranges (Column c) known reads = refl
-range_of_expression bz ranges (IsTrue c) known reads = refl
-range_of_expression bz ranges (Const n) known reads = refl
 range_of_expression bz ranges (Neg a) known reads = ap (over negated) (operand bz ranges a known reads)
 range_of_expression bz ranges (Add a b) known reads = ap₂ (over_both summed) (operand bz ranges a known reads.0) (operand bz ranges b known reads.1)
 range_of_expression bz ranges (Sub a b) known reads = ap₂ (over_both lessened) (operand bz ranges a known reads.0) (operand bz ranges b known reads.1)
 range_of_expression bz ranges (Mul a b) known reads = ap₂ (over_both multiplied) (operand bz ranges a known reads.0) (operand bz ranges b known reads.1)
 range_of_expression bz ranges (Div a b) known reads = ap₂ (over_divisor divided) (operand bz ranges a known reads.0) (operand bz ranges b known reads.1)
 range_of_expression bz ranges (Rem a b) known reads = ap₂ (over_divisor left_over) (operand bz ranges a known reads.0) (operand bz ranges b known reads.1)
-range_of_expression bz ranges (Eq a b) known reads = refl
-range_of_expression bz ranges (Lt a b) known reads = refl
-range_of_expression bz ranges (Le a b) known reads = refl
+range_of_expression bz ranges _ known reads = refl
 
 pub range_same : (bz : List BzOp) (ranges : List Range) (op : BzOp) → AreRanges bz ranges → ReadsBefore (length ranges) op → slice_get bz (length ranges) ≡ Some op
     → range_over ranges op ≡ range (term_at (expressions bz) (length ranges))

@@ -24,31 +24,11 @@ kept_test test f each (x ∷ xs) (suc i) = kept_test test f each xs i
 
 whole_kept : (signals : List StoredSignal) (columns : List ℕ) (op : BzOp) → is_whole (Some (bound_op signals columns op)) ≡ is_whole (Some op)
 whole_kept signals columns (Column c) = refl
-whole_kept signals columns (IsTrue c) = refl
-whole_kept signals columns (Const n) = refl
-whole_kept signals columns (Neg a) = refl
-whole_kept signals columns (Add a b) = refl
-whole_kept signals columns (Sub a b) = refl
-whole_kept signals columns (Mul a b) = refl
-whole_kept signals columns (Div a b) = refl
-whole_kept signals columns (Rem a b) = refl
-whole_kept signals columns (Eq a b) = refl
-whole_kept signals columns (Lt a b) = refl
-whole_kept signals columns (Le a b) = refl
+whole_kept signals columns _ = refl
 
 truth_kept : (signals : List StoredSignal) (columns : List ℕ) (op : BzOp) → is_truth (Some (bound_op signals columns op)) ≡ is_truth (Some op)
 truth_kept signals columns (Column c) = refl
-truth_kept signals columns (IsTrue c) = refl
-truth_kept signals columns (Const n) = refl
-truth_kept signals columns (Neg a) = refl
-truth_kept signals columns (Add a b) = refl
-truth_kept signals columns (Sub a b) = refl
-truth_kept signals columns (Mul a b) = refl
-truth_kept signals columns (Div a b) = refl
-truth_kept signals columns (Rem a b) = refl
-truth_kept signals columns (Eq a b) = refl
-truth_kept signals columns (Lt a b) = refl
-truth_kept signals columns (Le a b) = refl
+truth_kept signals columns _ = refl
 
 pub truth_at_kept : (signals : List StoredSignal) (columns : List ℕ) (ops : List BzOp) (a : ℕ) → is_truth (slice_get (map (bound_op signals columns) ops) a) ≡ is_truth (slice_get ops a)
 truth_at_kept signals columns ops a = kept_test is_truth (bound_op signals columns) (truth_kept signals columns) ops a
@@ -103,9 +83,6 @@ term_over g (e ∷ es) (suc a) = term_over g es a
 expression_over : (signals : List StoredSignal) (columns : List ℕ) (before : List Expression) (op : BzOp)
     → expression_of (map (both_over (moved signals columns)) before) (bound_op signals columns op) ≡ both_over (moved signals columns) (expression_of before op)
 unfolding both_over over atom_over
-expression_over signals columns before (Column c) = refl
-expression_over signals columns before (IsTrue c) = refl
-expression_over signals columns before (Const n) = refl
 expression_over signals columns before (Neg a) = ap (λ x. whole (negative x)) (term_over (moved signals columns) before a)
 expression_over signals columns before (Add a b) = let x = term_over (moved signals columns) before a in let y = term_over (moved signals columns) before b in cc
 expression_over signals columns before (Sub a b) = let x = term_over (moved signals columns) before a in let y = term_over (moved signals columns) before b in cc
@@ -115,6 +92,7 @@ expression_over signals columns before (Rem a b) = let x = term_over (moved sign
 expression_over signals columns before (Eq a b) = let x = term_over (moved signals columns) before a in let y = term_over (moved signals columns) before b in cc
 expression_over signals columns before (Lt a b) = let x = term_over (moved signals columns) before a in let y = term_over (moved signals columns) before b in cc
 expression_over signals columns before (Le a b) = let x = term_over (moved signals columns) before a in let y = term_over (moved signals columns) before b in cc
+expression_over signals columns before _ = refl
 
 pub expressions_over : (signals : List StoredSignal) (columns : List ℕ) (before : List Expression) (ops : List BzOp)
     → expressions_after (map (both_over (moved signals columns)) before) (map (bound_op signals columns) ops) ≡ map (both_over (moved signals columns)) (expressions_after before ops)

@@ -127,47 +127,20 @@ moved_unread (s ∷ signals) (n ∷ columns) c none = elim (eqb_tells s.column c
 pub unread_stays : (signals : List StoredSignal) (columns : List ℕ) (op : BzOp) → signal_read signals op ≡ None → bound_op signals columns op ≡ op
 unread_stays signals columns (Column c) none = ap Column (moved_unread signals columns c none)
 unread_stays signals columns (IsTrue c) none = ap IsTrue (moved_unread signals columns c none)
-unread_stays signals columns (Const n) none = refl
-unread_stays signals columns (Neg a) none = refl
-unread_stays signals columns (Add a b) none = refl
-unread_stays signals columns (Sub a b) none = refl
-unread_stays signals columns (Mul a b) none = refl
-unread_stays signals columns (Div a b) none = refl
-unread_stays signals columns (Rem a b) none = refl
-unread_stays signals columns (Eq a b) none = refl
-unread_stays signals columns (Lt a b) none = refl
-unread_stays signals columns (Le a b) none = refl
+unread_stays signals columns _ none = refl
 
 -- the signal that an instruction reads is one of those stored
 pub read_inside : (signals : List StoredSignal) (op : BzOp) (k : ℕ) → signal_read signals op ≡ Some k → k < length signals
 read_inside signals (Column c) k h = number_inside signals c k h
 read_inside signals (IsTrue c) k h = number_inside signals c k h
-read_inside signals (Const n) k h = absurd (cc)
-read_inside signals (Neg a) k h = absurd (cc)
-read_inside signals (Add a b) k h = absurd (cc)
-read_inside signals (Sub a b) k h = absurd (cc)
-read_inside signals (Mul a b) k h = absurd (cc)
-read_inside signals (Div a b) k h = absurd (cc)
-read_inside signals (Rem a b) k h = absurd (cc)
-read_inside signals (Eq a b) k h = absurd (cc)
-read_inside signals (Lt a b) k h = absurd (cc)
-read_inside signals (Le a b) k h = absurd (cc)
+read_inside signals _ k h = absurd (cc)
 
 -- an instruction that reads a signal reads it where it stands now
 pub read_moves : (signals : List StoredSignal) (columns : List ℕ) (op new : BzOp) (k : ℕ) → length columns ≡ length signals → signal_read signals op ≡ Some k
     → ((c : ℕ) → op ≡ Column c → new ≡ Column (slice_index columns k)) → ((c : ℕ) → op ≡ IsTrue c → new ≡ IsTrue (slice_index columns k)) → bound_op signals columns op ≡ new
 read_moves signals columns (Column c) new k same h whole truth = ap Column (moved_read signals columns c k same h) ∙ sym (whole c refl)
 read_moves signals columns (IsTrue c) new k same h whole truth = ap IsTrue (moved_read signals columns c k same h) ∙ sym (truth c refl)
-read_moves signals columns (Const n) new k same h whole truth = absurd (cc)
-read_moves signals columns (Neg a) new k same h whole truth = absurd (cc)
-read_moves signals columns (Add a b) new k same h whole truth = absurd (cc)
-read_moves signals columns (Sub a b) new k same h whole truth = absurd (cc)
-read_moves signals columns (Mul a b) new k same h whole truth = absurd (cc)
-read_moves signals columns (Div a b) new k same h whole truth = absurd (cc)
-read_moves signals columns (Rem a b) new k same h whole truth = absurd (cc)
-read_moves signals columns (Eq a b) new k same h whole truth = absurd (cc)
-read_moves signals columns (Lt a b) new k same h whole truth = absurd (cc)
-read_moves signals columns (Le a b) new k same h whole truth = absurd (cc)
+read_moves signals columns _ new k same h whole truth = absurd (cc)
 
 -- what a table of signal numbers says of an instruction
 pub signal_numbers_long : (program : Program) (signal_numbers : List (Option ℕ)) → signal_numbers ≡ signals_read program → length signal_numbers ≡ length program.bz
@@ -227,16 +200,7 @@ reader_stays : (program : Program) (columns : List ℕ) (i : ℕ) (op : BzOp) �
     → signal_read (bound_signals program.signals columns) (bound_op program.signals columns op) ≡ signal_read program.signals op
 reader_stays program columns i (Column c) two same different h = column_stays program columns c false two same different h
 reader_stays program columns i (IsTrue c) two same different h = column_stays program columns c true two same different h
-reader_stays program columns i (Const n) two same different h = refl
-reader_stays program columns i (Neg a) two same different h = refl
-reader_stays program columns i (Add a b) two same different h = refl
-reader_stays program columns i (Sub a b) two same different h = refl
-reader_stays program columns i (Mul a b) two same different h = refl
-reader_stays program columns i (Div a b) two same different h = refl
-reader_stays program columns i (Rem a b) two same different h = refl
-reader_stays program columns i (Eq a b) two same different h = refl
-reader_stays program columns i (Lt a b) two same different h = refl
-reader_stays program columns i (Le a b) two same different h = refl
+reader_stays program columns i _ two same different h = refl
 
 mapped_same : {X Y Z : Type 0} (f : Y → Z) (g : X → Y) (h : X → Z) (xs : List X) → ((i : ℕ) (d : X) → i < length xs → f (g (slice_index_or xs i d)) ≡ h (slice_index_or xs i d)) → map f (map g xs) ≡ map h xs
 mapped_same f g h [] all = refl

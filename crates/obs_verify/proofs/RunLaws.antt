@@ -54,18 +54,11 @@ slots_within program none = leb-true _ _ (unless_true _ _ none)
 
 -- an instruction that gives a truth has a truth as its expression
 truth_of_op : (before : List Expression) (op : bz.BzOp) → is_truth (Some op) ≡ true → IsTruthExpression (Some (expression_of before op))
-truth_of_op before (bz.TheVariants.Column c) h = absurd (cc)
 truth_of_op before (bz.TheVariants.IsTrue c) h = tt
-truth_of_op before (bz.TheVariants.Const n) h = absurd (cc)
-truth_of_op before (bz.TheVariants.Neg a) h = absurd (cc)
-truth_of_op before (bz.TheVariants.Add a b) h = absurd (cc)
-truth_of_op before (bz.TheVariants.Sub a b) h = absurd (cc)
-truth_of_op before (bz.TheVariants.Mul a b) h = absurd (cc)
-truth_of_op before (bz.TheVariants.Div a b) h = absurd (cc)
-truth_of_op before (bz.TheVariants.Rem a b) h = absurd (cc)
 truth_of_op before (bz.TheVariants.Eq a b) h = tt
 truth_of_op before (bz.TheVariants.Lt a b) h = tt
 truth_of_op before (bz.TheVariants.Le a b) h = tt
+truth_of_op before _ h = absurd (cc)
 
 truth_in : (ops : List bz.BzOp) (k : ℕ) (o : Option bz.BzOp) → slice_get ops k ≡ o → is_truth o ≡ true → IsTruthExpression (slice_get (expressions ops) k)
 truth_in ops k None at h = absurd (cc)

@@ -28,21 +28,15 @@ pub in_order : (program : Program) → first_in (ft_fault program) 0 program.ft 
 in_order program none i op inside = after program i (slice_index_or program.ft i op) (unless_true _ _ (or_none _ _ (each (ft_fault program) program.ft none i op inside)).0)
 
 window : (op : ft.FtOp) → has_future_window op ≡ true → HasBounds 1048576 op
-window ft.TheVariants.True h = tt
-window (ft.TheVariants.Load a) h = tt
-window (ft.TheVariants.Not g) h = tt
-window (ft.TheVariants.And l r) h = tt
 window (ft.TheVariants.Until l r w) h = (leb-true w.lo w.hi (and_left _ _ h), leb-true w.hi 1048576 (and_right _ _ h))
+window _ h = tt
 
 pub bounded : (program : Program) → first_in (ft_fault program) 0 program.ft ≡ None → All (HasBounds 1048576) program.ft
 bounded program none i op inside = window (slice_index_or program.ft i op) (unless_true _ _ (or_none _ _ (each (ft_fault program) program.ft none i op inside)).1)
 
 past_window : (op : pt.PtOp) → has_past_window op ≡ true → HasPastBounds 1048576 op
-past_window pt.TheVariants.True h = tt
-past_window (pt.TheVariants.Load a) h = tt
-past_window (pt.TheVariants.Not g) h = tt
-past_window (pt.TheVariants.And l r) h = tt
 past_window (pt.TheVariants.Since l r w) h = (leb-true w.lo w.hi (and_left _ _ h), leb-true w.hi 1048576 (and_right _ _ h))
+past_window _ h = tt
 
 pub bounded_past : (program : Program) → first_in (pt_fault program) 0 program.pt ≡ None → All (HasPastBounds 1048576) program.pt
 bounded_past program none i op inside = past_window (slice_index_or program.pt i op) (unless_true _ _ (or_none _ _ (each (pt_fault program) program.pt none i op inside)).1)

@@ -27,18 +27,11 @@ first_expressions before (op ∷ ops) (suc i) =
 
 -- an instruction that gives a whole number has one as its expression
 whole_of_op : (before : List Expression) (op : BzOp) → is_whole (Some op) ≡ true → IsWholeExpression (Some (expression_of before op))
-whole_of_op before (Column c) h = tt
 whole_of_op before (IsTrue c) h = absurd (cc)
-whole_of_op before (Const n) h = tt
-whole_of_op before (Neg a) h = tt
-whole_of_op before (Add a b) h = tt
-whole_of_op before (Sub a b) h = tt
-whole_of_op before (Mul a b) h = tt
-whole_of_op before (Div a b) h = tt
-whole_of_op before (Rem a b) h = tt
 whole_of_op before (Eq a b) h = absurd (cc)
 whole_of_op before (Lt a b) h = absurd (cc)
 whole_of_op before (Le a b) h = absurd (cc)
+whole_of_op before _ h = tt
 
 whole_in : (ops : List BzOp) (a : ℕ) (o : Option BzOp) → slice_get ops a ≡ o → is_whole o ≡ true → IsWhole (expressions ops) a
 whole_in ops a None at h = absurd (cc)

@@ -144,18 +144,12 @@ bz_kept program width columns two same below signals none = from_each (bz_fault 
     ∙ was.1)
 
 ft_kept : (program : Program) (width : ℕ) (columns : List ℕ) (i : ℕ) (op : ft.FtOp) → ft_fault (bound program width columns) i op ≡ ft_fault program i op
-ft_kept program width columns i ft.TheVariants.True = refl
 ft_kept program width columns i (ft.TheVariants.Load a) = ap (λ b. earlier_of (unless b (Operand Ft i)) None) (truth_at_kept program.signals columns program.bz a)
-ft_kept program width columns i (ft.TheVariants.Not g) = refl
-ft_kept program width columns i (ft.TheVariants.And l r) = refl
-ft_kept program width columns i (ft.TheVariants.Until l r w) = refl
+ft_kept program width columns i _ = refl
 
 pt_kept : (program : Program) (width : ℕ) (columns : List ℕ) (i : ℕ) (op : pt.PtOp) → pt_fault (bound program width columns) i op ≡ pt_fault program i op
-pt_kept program width columns i pt.TheVariants.True = refl
 pt_kept program width columns i (pt.TheVariants.Load a) = ap (λ b. earlier_of (unless b (Operand Pt i)) None) (truth_at_kept program.signals columns program.bz a)
-pt_kept program width columns i (pt.TheVariants.Not g) = refl
-pt_kept program width columns i (pt.TheVariants.And l r) = refl
-pt_kept program width columns i (pt.TheVariants.Since l r w) = refl
+pt_kept program width columns i _ = refl
 
 -- a well-formed program stays so
 pub well_bound : (program : Program) (width : ℕ) (columns : List ℕ) → program.version ≡ 2 → length columns ≡ length program.signals → All (λ c. c < width) columns → AreDifferent columns → width ≤ 65536

@@ -234,16 +234,7 @@ column_raised program c t one there h =
 operands_raised : (program : Program) (i : ℕ) (d op : BzOp) → IsOneWay (reads program.bz) → i < length program.bz → slice_index_or program.bz i d ≡ op → has_operands program i op ≡ true → has_operands (raised program) i op ≡ true
 operands_raised program i d (Column c) one inside is h = column_raised program c false one (read_there program.bz i c false d (Column c) inside is refl) h
 operands_raised program i d (IsTrue c) one inside is h = column_raised program c true one (read_there program.bz i c true d (IsTrue c) inside is refl) h
-operands_raised program i d (Const n) one inside is h = h
-operands_raised program i d (Neg a) one inside is h = h
-operands_raised program i d (Add a b) one inside is h = h
-operands_raised program i d (Sub a b) one inside is h = h
-operands_raised program i d (Mul a b) one inside is h = h
-operands_raised program i d (Div a b) one inside is h = h
-operands_raised program i d (Rem a b) one inside is h = h
-operands_raised program i d (Eq a b) one inside is h = h
-operands_raised program i d (Lt a b) one inside is h = h
-operands_raised program i d (Le a b) one inside is h = h
+operands_raised program i d _ one inside is h = h
 
 bz_raised : (program : Program) → IsOneWay (reads program.bz) → first_in (bz_fault program) 0 program.bz ≡ None → first_in (bz_fault (raised program)) 0 program.bz ≡ None
 bz_raised program one none = from_each (bz_fault (raised program)) program.bz (λ i d inside.
@@ -288,16 +279,7 @@ kept_raised program bests worsts before signal_numbers one kept read = record {
 op_within : (program : Program) (i : ℕ) (op : BzOp) → has_operands program i op ≡ true → ReadsWithin program.width op
 op_within program i (Column c) h = ltb-true c program.width (and_left _ _ h)
 op_within program i (IsTrue c) h = ltb-true c program.width (and_left _ _ h)
-op_within program i (Const n) h = tt
-op_within program i (Neg a) h = tt
-op_within program i (Add a b) h = tt
-op_within program i (Sub a b) h = tt
-op_within program i (Mul a b) h = tt
-op_within program i (Div a b) h = tt
-op_within program i (Rem a b) h = tt
-op_within program i (Eq a b) h = tt
-op_within program i (Lt a b) h = tt
-op_within program i (Le a b) h = tt
+op_within program i _ h = tt
 
 pub all_within : (program : Program) → IsWellFormed program → All (ReadsWithin program.width) program.bz
 all_within program good i d inside =

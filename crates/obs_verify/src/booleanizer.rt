@@ -25,10 +25,10 @@ pub fn check_booleanizer(
     requires kinds { AreKinds program.now.signals kinds.now }
     ensures { IsAnswer result (first_in (bz_fault program.now) 0 program.now.bz) }
 {
-    let mut before = Vec::new(alloc);
+    let mut before = Vec::with_capacity(alloc, program.bz.len())?;
     for op in program.bz.as_slice() {
         let range = check_op(program, kinds, &before, op)?;
-        before.push(range)?;
+        before.push_reserved(range);
     }
     Ok(())
 }

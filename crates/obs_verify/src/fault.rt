@@ -4,7 +4,7 @@ ghost use Rattle.std.specs.Prelude.{◌≡◌, length};
 ghost use Rattle.obs_verify.specs.FaultTexts.{part_name};
 
 use mltl_base::Part;
-use std::alloc::{AllocError, AllocFailed};
+use std::alloc::AllocError;
 use std::error::Error;
 use std::fmt;
 
@@ -96,16 +96,6 @@ impl From<AllocError> for VerifyFault {
     }
 }
 
-impl<T: Drop> From<AllocFailed<T>> for VerifyFault {
-    ghost use Rattle.obs_verify.specs.declared.fault.VerifyFault.TheVariants.{Memory};
-
-    ghost from_gives = { λ _ fault. fault ≡ Memory };
-
-    fn from(_refused: AllocFailed<T>) -> VerifyFault {
-        VerifyFault::Memory
-    }
-}
-
 /// Why a program of version 1 has none of version 2.
 #[derive(Clone, Copy)]
 pub enum UpgradeFault {
@@ -120,16 +110,6 @@ impl From<AllocError> for UpgradeFault {
     ghost from_gives = { λ _ fault. fault ≡ Memory };
 
     fn from(_refused: AllocError) -> UpgradeFault {
-        UpgradeFault::Memory
-    }
-}
-
-impl<T: Drop> From<AllocFailed<T>> for UpgradeFault {
-    ghost use Rattle.obs_verify.specs.declared.fault.UpgradeFault.TheVariants.{Memory};
-
-    ghost from_gives = { λ _ fault. fault ≡ Memory };
-
-    fn from(_refused: AllocFailed<T>) -> UpgradeFault {
         UpgradeFault::Memory
     }
 }

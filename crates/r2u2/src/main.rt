@@ -2,7 +2,7 @@
 #![tactic(auto)]
 
 ghost use Rattle.std.specs.Process.{exit_status};
-ghost use Rattle.r2u2.specs.Ending.{EndsBy};
+ghost use Rattle.r2u2.specs.Ending.{MonitorEnds};
 
 use mltl_tools::{Status, Words, r2u2_main, words_of};
 use std::alloc::{AllocError, Global};
@@ -11,8 +11,8 @@ use tool_io::{Host, RealHost};
 
 /// Runs the command line of these arguments, unless out of memory for them. Returns how the program ends.
 fn run<H: Host>(alloc: Global, words: Result<Words, AllocError>, host: &mut H) -> ExitCode
-    ensures { EndsBy words (exit_status result) (H.faults host.old) (H.faults host.new)
-        (H.log host.old) (H.log host.new) }
+    ensures { MonitorEnds words (exit_status result)
+        (H.faults host.old) (H.faults host.new) (H.log host.old) (H.log host.new) }
 {
     let mut kept = None;
     match words {
@@ -22,9 +22,6 @@ fn run<H: Host>(alloc: Global, words: Result<Words, AllocError>, host: &mut H) -
 }
 
 fn main(rt: HostRuntime) -> ExitCode {
-    run(
-        rt.alloc(),
-        words_of(rt.alloc(), &rt),
-        &mut RealHost::new(rt),
-    )
+    let words = words_of(rt.alloc(), &rt);
+    run(rt.alloc(), words, &mut RealHost::new(rt))
 }

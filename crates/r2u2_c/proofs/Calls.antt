@@ -13,13 +13,13 @@ use Rattle.r2u2_monitor.specs.declared.row_fault.RowFault.{RowFault}
 use Rattle.r2u2_monitor.specs.declared.row_fault.RowFault.TheVariants.{ReportsLeft, NotARow, TooManyRows}
 use Rattle.r2u2_monitor.specs.Monitoring.{IsDrained, program_of, taken_by}
 use Rattle.r2u2_monitor.specs.RowFaults.{IsRowCause}
-use Rattle.r2u2_monitor.specs.Running.{row_work}
+use Rattle.r2u2_monitor.specs.Work.{row_work}
 use Rattle.r2u2_monitor.specs.Bursts.{most_reports}
 use Rattle.r2u2_c.specs.declared.codes.TheConstants.{DONE, NOT_OPEN, REPORTS_LEFT, NOT_A_ROW, TOO_MANY_ROWS, NO_REPORT}
 use Rattle.r2u2_c.specs.declared.report.Told.{Told}
 use Rattle.r2u2_c.specs.declared.row_why.RowWhy.{RowWhy}
 use Rattle.r2u2_c.specs.Batches.{TellsEach}
-use Rattle.r2u2_c.specs.Exports.{HoldsBack, TellsFirst, TellsWhy, Reports, row_cause}
+use Rattle.r2u2_c.specs.Exports.{HoldsBack, IsHeldBack, TellsFirst, Reports, row_cause}
 use Rattle.r2u2_c.specs.Queries.{MirrorsMonitor, open_delays}
 
 -- the monitor after a box is the one that was open
@@ -47,51 +47,18 @@ Answers taken code before after =
 fault_code : (fault : RowFault) (code : ℕ) (after : RowWhy) → after ≡ row_cause fault → code ≡ after.why → code ≡ (row_cause fault).why
 fault_code fault code after is e = e ∙ ap (λ (why : RowWhy). why.why) is
 
--- the answer to a row that isn't taken before the reports are given
-pub left_first : (taken : Result ⊤ RowFault) (code : ℕ) (row : Row) (m : State) (open_before : Option State) (before after : RowWhy) → open_before ≡ Some m
-    → IfErr taken (λ fault. IsRowCause fault m row) → Answers taken code before after → code ≡ REPORTS_LEFT → HoldsBack ReportsLeft row open_before
-left_first (Ok t) code row m o before after is cause answers e = absurd (let done : code ≡ 0 = answers.0.0 in let left : code ≡ 5 = e in omega (arith, done, left))
-left_first (Err ReportsLeft) code row m o before after is cause answers e = subst (HoldsBack ReportsLeft row) (sym is) cause
-left_first (Err (NotARow column)) code row m o before after is cause answers e =
-    absurd (let unfit : code ≡ 6 = fault_code (NotARow column) code after answers.1.0 answers.1.1 in let left : code ≡ 5 = e in omega (arith, unfit, left))
-left_first (Err TooManyRows) code row m o before after is cause answers e =
-    absurd (let late : code ≡ 7 = fault_code TooManyRows code after answers.1.0 answers.1.1 in let left : code ≡ 5 = e in omega (arith, late, left))
+-- a row that isn't taken
+pub held_back : (taken : Result ⊤ RowFault) (code : ℕ) (row : Row) (m : State) (open_before : Option State) (before after : RowWhy) → open_before ≡ Some m
+    → IfErr taken (λ fault. IsRowCause fault m row) → Answers taken code before after → NOT_OPEN < code → IsHeldBack code after row open_before
+held_back (Ok t) code row m o before after is cause answers more = absurd (let done : code ≡ 0 = answers.0.0 in let big : 1 < code = more in omega (arith, done, big))
+held_back (Err fault) code row m o before after is cause answers more = record { cause = fault; read_is = answers.1.0; code_is = answers.1.1; held = subst (HoldsBack fault row) (sym is) cause }
 
--- to one that isn't a row
-pub unfit_then : (taken : Result ⊤ RowFault) (code : ℕ) (row : Row) (m : State) (open_before : Option State) (before after : RowWhy) → open_before ≡ Some m
-    → IfErr taken (λ fault. IsRowCause fault m row) → Answers taken code before after → code ≡ NOT_A_ROW → HoldsBack (NotARow after.column) row open_before
-unfit_then (Ok t) code row m o before after is cause answers e = absurd (let done : code ≡ 0 = answers.0.0 in let unfit : code ≡ 6 = e in omega (arith, done, unfit))
-unfit_then (Err ReportsLeft) code row m o before after is cause answers e =
-    absurd (let left : code ≡ 5 = fault_code ReportsLeft code after answers.1.0 answers.1.1 in let unfit : code ≡ 6 = e in omega (arith, left, unfit))
-unfit_then (Err (NotARow column)) code row m o before after is cause answers e =
-    subst (HoldsBack (NotARow after.column) row) (sym is) (subst (λ (c : ℕ). IsRowCause (NotARow c) m row) (sym (ap (λ (why : RowWhy). why.column) answers.1.0)) cause)
-unfit_then (Err TooManyRows) code row m o before after is cause answers e =
-    absurd (let late : code ≡ 7 = fault_code TooManyRows code after answers.1.0 answers.1.1 in let unfit : code ≡ 6 = e in omega (arith, late, unfit))
-
--- and to one after too many
-pub late_last : (taken : Result ⊤ RowFault) (code : ℕ) (row : Row) (m : State) (open_before : Option State) (before after : RowWhy) → open_before ≡ Some m
-    → IfErr taken (λ fault. IsRowCause fault m row) → Answers taken code before after → code ≡ TOO_MANY_ROWS → HoldsBack TooManyRows row open_before
-late_last (Ok t) code row m o before after is cause answers e = absurd (let done : code ≡ 0 = answers.0.0 in let late : code ≡ 7 = e in omega (arith, done, late))
-late_last (Err ReportsLeft) code row m o before after is cause answers e =
-    absurd (let left : code ≡ 5 = fault_code ReportsLeft code after answers.1.0 answers.1.1 in let late : code ≡ 7 = e in omega (arith, left, late))
-late_last (Err (NotARow column)) code row m o before after is cause answers e =
-    absurd (let unfit : code ≡ 6 = fault_code (NotARow column) code after answers.1.0 answers.1.1 in let late : code ≡ 7 = e in omega (arith, unfit, late))
-late_last (Err TooManyRows) code row m o before after is cause answers e = subst (HoldsBack TooManyRows row) (sym is) cause
-
--- a fault is told with its code and its column
-fault_told : (fault : RowFault) (before : RowWhy) → TellsWhy (row_cause fault).why before (row_cause fault)
-fault_told ReportsLeft before = record { untold = λ small. absurd (let few : 5 ≤ 1 = small in omega (arith, few)); why = λ _. refl; nowhere = λ _ other. refl }
-fault_told (NotARow column) before = record { untold = λ small. absurd (let few : 6 ≤ 1 = small in omega (arith, few)); why = λ _. refl; nowhere = λ _ other. absurd (other refl) }
-fault_told TooManyRows before = record { untold = λ small. absurd (let few : 7 ≤ 1 = small in omega (arith, few)); why = λ _. refl; nowhere = λ _ other. refl }
-
-pub why_told : (taken : Result ⊤ RowFault) (code : ℕ) (before after : RowWhy) → Answers taken code before after → TellsWhy code before after
-why_told (Ok t) code before after answers =
-    let done : code ≡ 0 = answers.0.0 in
-    record { untold = λ _. answers.0.1; why = λ more. absurd (let big : 1 < code = more in omega (arith, big, done)); nowhere = λ more other. absurd (let big : 1 < code = more in omega (arith, big, done)) }
-why_told (Err fault) code before after answers =
-    let why : after ≡ row_cause fault = answers.1.0 in
-    subst (λ (read : RowWhy). TellsWhy code before read) (sym why)
-    (subst (λ (n : ℕ). TellsWhy n before (row_cause fault)) (sym (fault_code fault code after why answers.1.1)) (fault_told fault before))
+-- one that is: C reads what it read before
+pub untold : (taken : Result ⊤ RowFault) (code : ℕ) (before after : RowWhy) → Answers taken code before after → code ≤ NOT_OPEN → after ≡ before
+untold (Ok t) code before after answers few = answers.0.1
+untold (Err ReportsLeft) code before after answers few = absurd (let left : code ≡ 5 = fault_code ReportsLeft code after answers.1.0 answers.1.1 in let low : code ≤ 1 = few in omega (arith, left, low))
+untold (Err (NotARow column)) code before after answers few = absurd (let unfit : code ≡ 6 = fault_code (NotARow column) code after answers.1.0 answers.1.1 in let low : code ≤ 1 = few in omega (arith, unfit, low))
+untold (Err TooManyRows) code before after answers few = absurd (let late : code ≡ 7 = fault_code TooManyRows code after answers.1.0 answers.1.1 in let low : code ≤ 1 = few in omega (arith, late, low))
 
 -- the codes of rows
 pub row_codes : (taken : Result ⊤ RowFault) (code : ℕ) (before after : RowWhy) → Answers taken code before after

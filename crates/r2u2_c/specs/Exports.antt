@@ -11,7 +11,7 @@ use Rattle.r2u2_monitor.specs.Monitoring.{HasGiven, Stands, TakesRow, open_in, p
 use Rattle.r2u2_monitor.specs.declared.row_fault.RowFault.{RowFault}
 use Rattle.r2u2_monitor.specs.declared.row_fault.RowFault.TheVariants.{ReportsLeft, NotARow, TooManyRows}
 use Rattle.r2u2_monitor.specs.RowFaults.{IsRowCause}
-use Rattle.r2u2_c.specs.declared.codes.TheConstants.{NOT_A_ROW, NOT_OPEN, REPORTS_LEFT, TOO_MANY_ROWS}
+use Rattle.r2u2_c.specs.declared.codes.TheConstants.{NOT_A_ROW, REPORTS_LEFT, TOO_MANY_ROWS}
 use Rattle.r2u2_c.specs.declared.fault.Fault.{Fault}
 use Rattle.r2u2_c.specs.declared.opened.OpeningFault.{OpeningFault}
 use Rattle.r2u2_c.specs.declared.report.Told.{Told}
@@ -49,7 +49,7 @@ BringsFew row (Some before) (Some after) = OpensFew row before after
 BringsFew row (Some before) None = ⊥
 BringsFew row None after = ⊥
 
--- the monitor that is open doesn't take the row, by this cause
+-- the open monitor doesn't take the row, by this cause
 abbrev pub HoldsBack : RowFault → Row → Option State → Type 0
 HoldsBack why row (Some monitor) = IsRowCause why monitor row
 HoldsBack why row None = ⊥
@@ -60,11 +60,12 @@ row_cause ReportsLeft = record { why = REPORTS_LEFT; column = 0 }
 row_cause (NotARow column) = record { why = NOT_A_ROW; column = column }
 row_cause TooManyRows = record { why = TOO_MANY_ROWS; column = 0 }
 
--- why a row isn't taken is returned with its code, and with a column where it isn't a row; else nothing is returned
-pub record TellsWhy (code : ℕ) (before after : RowWhy) : Type 0 where
-  pub untold : code ≤ NOT_OPEN → after ≡ before
-  pub why : NOT_OPEN < code → after.why ≡ code
-  pub nowhere : NOT_OPEN < code → code ≢ NOT_A_ROW → after.column ≡ 0
+-- the open monitor doesn't take the row, and C reads the cause, whose code the call returns
+pub record IsHeldBack (code : ℕ) (read : RowWhy) (row : Row) (before : Option State) : Type 0 where
+  pub cause : RowFault
+  pub read_is : read ≡ row_cause cause
+  pub code_is : code ≡ read.why
+  pub held : HoldsBack cause row before
 
 -- what C reads is the first report that was open, and the others still are, after the same rows
 pub record TellsFirst (style : Style) (read : Told) (before after : State) : Type 0 where

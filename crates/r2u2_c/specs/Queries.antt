@@ -9,7 +9,7 @@ use Rattle.mltl_base.specs.Programs.{output_names, outputs}
 use Rattle.mltl_base.specs.Reports.{delay}
 use Rattle.r2u2_monitor.specs.declared.state.State.{State}
 use Rattle.r2u2_monitor.specs.Monitoring.{program_of, taken_by}
-use Rattle.r2u2_monitor.specs.Running.{row_work}
+use Rattle.r2u2_monitor.specs.Work.{row_work}
 use Rattle.r2u2_monitor.specs.Bursts.{most_reports}
 use Rattle.r2u2_monitor.specs.Bytes.{monitor_bytes}
 use Rattle.r2u2_monitor.specs.declared.bytes.TheConstants.{MONITOR_BYTES}
@@ -25,7 +25,7 @@ abbrev pub open_rows : Option State → ℕ
 open_rows (Some monitor) = taken_by monitor
 open_rows None = 0
 
--- the most steps of one row
+-- the most steps of one row, up to the last of its reports
 abbrev pub steps_of : Option State → ℕ
 steps_of (Some monitor) = row_work (program_of monitor)
 steps_of None = 0

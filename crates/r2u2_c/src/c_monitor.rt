@@ -4,7 +4,7 @@ ghost use Rattle.std.specs.Prelude.{◌≡◌, Some, length};
 ghost use Rattle.r2u2_c.specs.Queries.{MirrorsMonitor, open_most_reports, open_names, open_signals, open_width, steps_of};
 
 use crate::handle::Handle;
-use r2u2_monitor::{Monitor, most_reports, row_steps};
+use r2u2_monitor::{Monitor, most_reports, row_work};
 use std::alloc::Global;
 use std::mem;
 
@@ -47,7 +47,7 @@ impl R2u2 {
         let width = width_in(&monitor);
         let outputs = outputs_in(&monitor);
         let signals = signals_in(&monitor);
-        let steps = row_steps(monitor.checked());
+        let steps = row_work(monitor.checked());
         let most = most_reports(monitor.checked());
         R2u2 {
             handle: Handle::with(monitor),

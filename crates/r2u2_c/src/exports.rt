@@ -1,10 +1,9 @@
 //! The calls of C.
 
-ghost use Rattle.std.specs.Prelude.{◌≡◌, ◌≢◌, ◌↔◌, ◌<◌, [], ◌∷◌, Contains, IsSome, IsSomeAnd, IfErr, IfOk, None};
+ghost use Rattle.std.specs.Prelude.{◌≡◌, ◌≢◌, ◌↔◌, ◌<◌, ◌≤◌, [], ◌∷◌, Contains, IsSome, IsSomeAnd, IfErr, IfOk, None};
 ghost use Rattle.r2u2_monitor.specs.Monitoring.{IsDrained};
 ghost use Rattle.r2u2_c.specs.declared.opened.OpeningFault.TheVariants.{Memory};
-ghost use Rattle.r2u2_monitor.specs.declared.row_fault.RowFault.TheVariants.{NotARow, ReportsLeft, TooManyRows};
-ghost use Rattle.r2u2_c.specs.Exports.{BeginsAgain, BringsFew, HoldsBack, Opens, Refuses, Takes, Reports, TellsWhy, row_cause};
+ghost use Rattle.r2u2_c.specs.Exports.{BeginsAgain, BringsFew, IsHeldBack, Opens, Refuses, Takes, Reports, row_cause};
 ghost use Rattle.r2u2_c.specs.Faults.{opening_fault};
 ghost use Rattle.r2u2_c.specs.Opening.{opened_by, program_under};
 ghost use Rattle.r2u2_c.specs.Reports.{style_of};
@@ -93,12 +92,10 @@ pub extern "C" fn r2u2_row(it: &mut R2u2, alloc: Global, fields: &[i64], why: &m
     ensures takes { result ≡ DONE → Takes fields.now it.old.handle.value it.new.handle.value }
     ensures few { result ≡ DONE → BringsFew fields.now it.old.handle.value it.new.handle.value }
     ensures not_open { (result ≡ NOT_OPEN) ↔ (it.old.handle.value ≡ None) }
-    ensures left { result ≡ REPORTS_LEFT → HoldsBack ReportsLeft fields.now it.old.handle.value }
-    ensures unfit { result ≡ NOT_A_ROW
-        → HoldsBack (NotARow why.new.column) fields.now it.old.handle.value }
-    ensures late { result ≡ TOO_MANY_ROWS → HoldsBack TooManyRows fields.now it.old.handle.value }
+    ensures held_back { NOT_OPEN < result
+        → IsHeldBack result why.new fields.now it.old.handle.value }
+    ensures untold { result ≤ NOT_OPEN → why.new ≡ why.old }
     ensures kept { 0 < result → it.new.handle.value ≡ it.old.handle.value }
-    ensures told { TellsWhy result why.old why.new }
     ensures codes { Contains
         (DONE ∷ NOT_OPEN ∷ REPORTS_LEFT ∷ NOT_A_ROW ∷ TOO_MANY_ROWS ∷ []) result }
 {
@@ -175,7 +172,7 @@ pub extern "C" fn r2u2_reset(it: &mut R2u2, alloc: Global) -> u32
 
 /// Frees the monitor, if one is open.
 #[unsafe(no_mangle)]
-pub extern "C" fn r2u2_close(it: &mut R2u2, alloc: Global)
+pub extern "C" fn r2u2_close_struct(it: &mut R2u2, alloc: Global)
     ensures closed { it.new.handle.value ≡ None }
 {
     it.close(alloc);

@@ -26,7 +26,7 @@ pub use batches::r2u2_next_many;
 pub use bytes::r2u2_bytes;
 pub use c_monitor::R2u2;
 pub use digests::{ProgramDigest, r2u2_open_checked};
-pub use exports::{r2u2_close, r2u2_next, r2u2_open, r2u2_open_under, r2u2_reset, r2u2_row};
+pub use exports::{r2u2_close_struct, r2u2_next, r2u2_open, r2u2_open_under, r2u2_reset, r2u2_row};
 pub use fault::Fault;
 pub use opened::OpeningFault;
 pub use queries::{

@@ -10,7 +10,7 @@ use mltl_base::{Name, Program};
 use obs_files::{FileFault, ProgramFault, open};
 use obs_verify::Checked;
 use r2u2_monitor::Monitor;
-use std::alloc::{AllocError, AllocFailed, Global};
+use std::alloc::{AllocError, Global};
 use trace_feed::{HeaderFault, bind_to_header};
 
 /// Why no monitor is opened.
@@ -66,23 +66,13 @@ impl From<AllocError> for OpeningFault {
     }
 }
 
-impl<T: Drop> From<AllocFailed<T>> for OpeningFault {
-    ghost use Rattle.r2u2_c.specs.declared.opened.OpeningFault.TheVariants.{Memory};
-
-    ghost from_gives = { λ _ why. why ≡ Memory };
-
-    fn from(_refused: AllocFailed<T>) -> OpeningFault {
-        OpeningFault::Memory
-    }
-}
-
 /// The monitor of the program that these bytes spell.
 pub(crate) fn open_monitor(alloc: Global, bytes: &[u8]) -> Result<Box<Monitor>, OpeningFault>
     ensures opened { IfOk result (λ b. Starts (opened_by bytes.now) b.value) }
     ensures refused { IfErr result (λ why. why ≢ OpeningFault.Memory
         → opened_by bytes.now ≡ Err why) }
 {
-    load(alloc, open(alloc, bytes)?)
+    Ok(load(alloc, open(alloc, bytes)?)?)
 }
 
 /// The same with the program's signals in the columns that a header names.
@@ -97,7 +87,7 @@ pub(crate) fn open_under(
 {
     let checked = open(alloc, bytes)?;
     let bound = bind(alloc, checked, header)?;
-    load(alloc, bound)
+    Ok(load(alloc, bound)?)
 }
 
 /// A program with its signals in the columns that a header names.
@@ -126,9 +116,8 @@ fn takes_header(program: &Program, header: &[u8]) -> Result<(), OpeningFault>
 }
 
 /// Makes a monitor in separate memory.
-fn load(alloc: Global, checked: Checked) -> Result<Box<Monitor>, OpeningFault>
+fn load(alloc: Global, checked: Checked) -> Result<Box<Monitor>, AllocError>
     ensures starts { IfOk result (λ b. Starts (Ok checked) b.value) }
-    ensures memory { IfErr result (λ why. why ≡ OpeningFault.Memory) }
 {
     let monitor = Monitor::load(alloc, checked)?;
     Ok(Box::new(alloc, monitor)?)

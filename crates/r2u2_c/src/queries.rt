@@ -78,7 +78,7 @@ pub extern "C" fn r2u2_delay(it: &mut R2u2, alloc: Global, k: u32) -> u32
     }
 }
 
-/// The most steps of one row, which are reads and writes of queues and boxes; 0 where none is open.
+/// The most steps of one row, from the question whether it can be taken to the last of its reports; 0 where none is open.
 #[unsafe(no_mangle)]
 pub extern "C" fn r2u2_steps(it: &R2u2) -> u64
     ensures { result ≡ steps_of it.now.handle.value }

@@ -25,8 +25,8 @@ use Rattle.r2u2_cli.specs.declared.program_file.Opened.TheVariants as made
 use Rattle.tool_words.specs.declared.status.Status.{Status}
 use Rattle.tool_words.specs.declared.status.Status.TheVariants.{Memory}
 use Rattle.tool_words.specs.Files.{file_status}
-use Rattle.tool_words.specs.Statuses.{with_status}
-use Rattle.r2u2_cli.specs.ProgramBy.{compile_status, refusal_of, file_refusal, header_status, bound_under, opened_under, program_by}
+use Rattle.tool_words.specs.Statuses.{compile_status, with_status}
+use Rattle.r2u2_cli.specs.ProgramBy.{trace_status, refusal_of, file_refusal, header_status, bound_under, opened_under, program_by}
 use Rattle.r2u2_cli.specs.Phases.{OpensFile}
 use Rattle.std.specs.Prelude.{option_map}
 
@@ -53,11 +53,11 @@ program_unrefused bytes program is = ap refusal_of is
 
 -- the header doesn't name the signals of a specification
 pub header_refuses : (kind : FileKind) (text : List ℕ) (header : Option (List ℕ)) (items : List ItemShape) (fault : CompileFault) → kind ≡ kinds.Spec → first_refusal text ≡ None → items ≡ items_in text
-    → (fault ≢ compile.Memory → refusal_in header_refusal (columns_by (signals_of items) header) ≡ Some fault) → compile_status fault ≢ Memory → program_by kind text header ≡ Err (compile_status fault)
+    → (fault ≢ compile.Memory → refusal_in header_refusal (columns_by (signals_of items) header) ≡ Some fault) → trace_status fault ≢ Memory → program_by kind text header ≡ Err (trace_status fault)
 unfolding program_by
 header_refuses kind text header items fault is none same refused some =
-    subst (λ s. program_by s text header ≡ Err (compile_status fault)) (sym is)
-    (ap (with_status compile_status) (header_answer text header items fault none same (refused (λ memory. some (ap compile_status memory)))))
+    subst (λ s. program_by s text header ≡ Err (trace_status fault)) (sym is)
+    (ap (with_status trace_status) (header_answer text header items fault none same (refused (λ memory. some (ap trace_status memory)))))
 
 -- its program
 pub spec_program : (kind : FileKind) (text : List ℕ) (header : Option (List ℕ)) (items : List ItemShape) (columns : Columns) (program : Program) → kind ≡ kinds.Spec → first_refusal text ≡ None → items ≡ items_in text
@@ -65,10 +65,10 @@ pub spec_program : (kind : FileKind) (text : List ℕ) (header : Option (List �
 unfolding program_by
 spec_program kind text header items columns program is none same found made within =
     subst (λ s. program_by s text header ≡ Ok program) (sym is)
-    (ap (with_status compile_status) (back_answers text header items columns (Ok program) none same found made within))
+    (ap (with_status trace_status) (back_answers text header items columns (Ok program) none same found made within))
 
 -- the program that a compilation gave is that of each specification with these items
-pub spec_programs : (found : Result Program CompileFault) (now : Result Program Status) (header : Option (List ℕ)) (items : List ItemShape) (columns : Columns) → now ≡ with_status compile_status found → columns_by (signals_of items) header ≡ Ok columns
+pub spec_programs : (found : Result Program CompileFault) (now : Result Program Status) (header : Option (List ℕ)) (items : List ItemShape) (columns : Columns) → now ≡ with_status trace_status found → columns_by (signals_of items) header ≡ Ok columns
     → IfOk found (λ program. program ≡ image columns (signals_of items) (outputs_of items)) → IfOk found (λ _. limit_refusal (over_columns columns (outputs_of items)) ≡ None)
     → IfOk now (λ program. (kind : FileKind) (text : List ℕ) → (kind ≡ kinds.Spec) × (first_refusal text ≡ None) × (items ≡ items_in text) → program_by kind text header ≡ Ok program)
 spec_programs found now header items columns same named made within = subst (λ r. IfOk r Runs) (sym same) (by_case found made within)
@@ -76,17 +76,17 @@ spec_programs found now header items columns same named made within = subst (λ 
     Runs : Program → Type 0
     Runs program = (kind : FileKind) (text : List ℕ) → (kind ≡ kinds.Spec) × (first_refusal text ≡ None) × (items ≡ items_in text) → program_by kind text header ≡ Ok program
 
-    by_case : (found : Result Program CompileFault) → IfOk found (λ program. program ≡ image columns (signals_of items) (outputs_of items)) → IfOk found (λ _. limit_refusal (over_columns columns (outputs_of items)) ≡ None) → IfOk (with_status compile_status found) Runs
+    by_case : (found : Result Program CompileFault) → IfOk found (λ program. program ≡ image columns (signals_of items) (outputs_of items)) → IfOk found (λ _. limit_refusal (over_columns columns (outputs_of items)) ≡ None) → IfOk (with_status trace_status found) Runs
     by_case (Ok program) made within = λ kind text opens. spec_program kind text header items columns program opens.0 opens.1 opens.2 named made within
     by_case (Err fault) made within = tt
 
 -- the limits that refuse it
 pub limit_refuses : (kind : FileKind) (text : List ℕ) (header : Option (List ℕ)) (items : List ItemShape) (columns : Columns) (fault : CompileFault) → kind ≡ kinds.Spec → first_refusal text ≡ None → items ≡ items_in text
-    → columns_by (signals_of items) header ≡ Ok columns → IsFirstRefusal (limit_refusal (over_columns columns (outputs_of items))) fault → compile_status fault ≢ Memory → program_by kind text header ≡ Err (compile_status fault)
+    → columns_by (signals_of items) header ≡ Ok columns → IsFirstRefusal (limit_refusal (over_columns columns (outputs_of items))) fault → trace_status fault ≢ Memory → program_by kind text header ≡ Err (trace_status fault)
 unfolding program_by
 limit_refuses kind text header items columns fault is none same found refused some =
-    subst (λ s. program_by s text header ≡ Err (compile_status fault)) (sym is)
-    (ap (with_status compile_status) (back_refuses text header items columns (Err fault) none same found refused (λ memory. some (ap compile_status memory))))
+    subst (λ s. program_by s text header ≡ Err (trace_status fault)) (sym is)
+    (ap (with_status trace_status) (back_refuses text header items columns (Err fault) none same found refused (λ memory. some (ap trace_status memory))))
 
 -- a program file under a header
 pub file_program : (kind : FileKind) (bytes : List ℕ) (header : Option (List ℕ)) (program : Program) (found : Result Program Status) → kind ≡ kinds.Program → opened bytes ≡ Ok program → bound_under header program ≡ found → program_by kind bytes header ≡ found

@@ -26,8 +26,8 @@ use Rattle.tool_words.specs.declared.file_kind.FileKind.TheVariants as kinds
 use Rattle.tool_words.specs.declared.status.Status.{Status}
 use Rattle.tool_words.specs.declared.status.Status.TheVariants.{Refused, BadProgram, BadTrace, Memory}
 use Rattle.tool_words.specs.Files.{file_status}
-use Rattle.tool_words.specs.Statuses.{with_status}
-use Rattle.r2u2_cli.specs.ProgramBy.{compile_status, refusal_of, file_refusal, header_status, bound_under, opened_under, program_by}
+use Rattle.tool_words.specs.Statuses.{compile_status, with_status}
+use Rattle.r2u2_cli.specs.ProgramBy.{trace_status, refusal_of, file_refusal, header_status, bound_under, opened_under, program_by}
 
 -- a status by which there is no program
 abbrev pub Refuses : Status → Type 0
@@ -101,13 +101,19 @@ text_status (compile.Refused line why) is = tt
 text_status (compile.BadHeader why) is = absurd is
 text_status compile.Memory is = tt
 
+-- under a header too
+headed_status : (fault : CompileFault) → IsHeaderless fault → Refuses (trace_status fault)
+headed_status (compile.Refused line why) is = tt
+headed_status (compile.BadHeader why) is = absurd is
+headed_status compile.Memory is = tt
+
 -- what was found of a text, with its statuses
 abbrev HasStatus : Result Program CompileFault → Type 0
-HasStatus found = IsFound (with_status compile_status found)
+HasStatus found = IsFound (with_status trace_status found)
 
 unless_speaks : (refusal : Option CompileFault) (found : Result Program CompileFault) → text.MayRefuse refusal → HasStatus found → HasStatus (unless_refused refusal found)
 unless_speaks None found a b = b
-unless_speaks (Some fault) found a b = text_status fault a
+unless_speaks (Some fault) found a b = headed_status fault a
 
 under_speaks : (signals : List Signal) (outs : List Asked) (found : Result Columns HeaderFault) → Names found → HasStatus (image_under signals outs found)
 under_speaks signals outs (Ok columns) names = unless_speaks (limit_refusal (over_columns columns outs)) (Ok (image columns signals outs)) (limit_headerless (over_columns columns outs)) tt

@@ -18,12 +18,12 @@ use Rattle.c2po_compile.proofs.TellingLaws.{not_refused, text_reports, text_name
 use Rattle.tool_words.specs.declared.status.Status.{Status}
 use Rattle.tool_words.specs.FirstLine.{begins_long}
 use Rattle.tool_words.specs.Statuses.{with_status}
-use Rattle.r2u2_cli.specs.ProgramBy.{compile_status, file_refusal, program_by, header_in, unless_long, program_over}
+use Rattle.r2u2_cli.specs.ProgramBy.{trace_status, file_refusal, program_by, header_in, unless_long, program_over}
 use Rattle.r2u2_cli.specs.Formulas.{TellsSource, TellsFile, IsSettledBy}
 use Rattle.r2u2_cli.proofs.ImageFiles.{program_told, tells_text}
 
 -- a program that was found was found without its statuses, and in spite of a long line
-status_found : (found : Result Program CompileFault) (program : Program) → with_status compile_status found ≡ Ok program → found ≡ Ok program
+status_found : (found : Result Program CompileFault) (program : Program) → with_status trace_status found ≡ Ok program → found ≡ Ok program
 status_found (Ok other) program is = let same : other ≡ program = cc in ap Ok same
 status_found (Err fault) program is = absurd (cc)
 

@@ -8,7 +8,6 @@ use Rattle.tool_io.specs.Cutting.{line_text}
 use Rattle.obs_files.specs.declared.fault.FileFault.{FileFault}
 use Rattle.obs_files.specs.Faults.{opened}
 use Rattle.trace_feed.specs.declared.header_fault.HeaderFault.{HeaderFault}
-use Rattle.trace_feed.specs.declared.header_fault.HeaderFault.TheVariants as header_fault
 use Rattle.trace_feed.specs.Header.{begins_header, bound_to}
 use Rattle.trace_feed.specs.declared.trace_why.TraceWhy.TheVariants as trace
 use Rattle.c2po_compile.specs.declared.fault.CompileFault.{CompileFault}
@@ -16,29 +15,25 @@ use Rattle.c2po_compile.specs.declared.fault.CompileFault.TheVariants as compile
 use Rattle.c2po_compile.specs.declared.fault.HeaderWhy.TheVariants as why
 use Rattle.c2po_compile.specs.Front.{first_refusal}
 use Rattle.c2po_compile.specs.Compiled.{image_of_text}
-use Rattle.c2po_compile.specs.Refusals.{unless_refused}
+use Rattle.c2po_compile.specs.Refusals.{header_refusal, unless_refused}
 use Rattle.tool_words.specs.declared.file_kind.FileKind.{FileKind}
 use Rattle.tool_words.specs.declared.file_kind.FileKind.TheVariants as kinds
 use Rattle.tool_words.specs.declared.status.Status.{Status}
-use Rattle.tool_words.specs.declared.status.Status.TheVariants.{Refused, BadHeader, BadTrace, Memory}
+use Rattle.tool_words.specs.declared.status.Status.TheVariants.{BadTrace}
 use Rattle.tool_words.specs.Files.{file_status}
 use Rattle.tool_words.specs.FirstLine.{begins_long}
-use Rattle.tool_words.specs.Statuses.{with_status}
+use Rattle.tool_words.specs.Statuses.{compile_status, with_status}
 
--- the status of a run whose specification isn't compiled; the header is the first line of its trace
-abbrev pub compile_status : CompileFault → Status
-compile_status (compile_fault.Refused line refusal) = Refused line refusal
-compile_status (compile_fault.BadHeader why.NoHeader) = BadHeader why.NoHeader
-compile_status (compile_fault.BadHeader (why.Missing name)) = BadTrace 1 (trace.Missing name)
-compile_status (compile_fault.BadHeader (why.Twice name)) = BadTrace 1 (trace.Twice name)
-compile_status compile_fault.Memory = Memory
+-- The status of a run whose specification isn't compiled under the header of its trace. A name that the header lacks,
+-- or has twice, is a fault of the first line.
+abbrev pub trace_status : CompileFault → Status
+trace_status (compile_fault.BadHeader (why.Missing name)) = BadTrace 1 (trace.Missing name)
+trace_status (compile_fault.BadHeader (why.Twice name)) = BadTrace 1 (trace.Twice name)
+trace_status fault = compile_status fault
 
 -- of one whose header doesn't name the program's signals
 abbrev pub header_status : HeaderFault → Status
-header_status header_fault.NoHeader = BadHeader why.NoHeader
-header_status (header_fault.Missing name) = BadTrace 1 (trace.Missing name)
-header_status (header_fault.Twice name) = BadTrace 1 (trace.Twice name)
-header_status header_fault.Memory = Memory
+header_status fault = trace_status (header_refusal fault)
 
 -- the status of a fault, where there is one
 abbrev pub refusal_of : Result Program FileFault → Option Status
@@ -63,7 +58,7 @@ opened_under header (Err fault) = Err (file_status fault)
 
 -- the program of a file under the header of a trace; or the first that refuses it
 unfoldable pub program_by : FileKind → List ℕ → Option (List ℕ) → Result Program Status
-program_by kinds.Spec file header = with_status compile_status (image_of_text file header)
+program_by kinds.Spec file header = with_status trace_status (image_of_text file header)
 program_by kinds.Program file header = opened_under header (opened file)
 
 -- the header of a trace: its first line, where that begins with `#`

@@ -6,7 +6,7 @@ ghost use Rattle.mltl_base.specs.declared.limits.TheConstants.{MAX_LINE_BYTES, M
 ghost use Rattle.obs_files.specs.Faults.{opened as opened_by};
 ghost use Rattle.tool_words.specs.Causes.{TellsNoCall};
 ghost use Rattle.tool_words.specs.Files.{file_limit};
-ghost use Rattle.r2u2_cli.specs.ProgramBy.{bound_under, compile_status, file_refusal, header_status, program_by};
+ghost use Rattle.r2u2_cli.specs.ProgramBy.{bound_under, file_refusal, header_status, program_by, trace_status};
 ghost use Rattle.r2u2_cli.specs.Phases.{OpensFile};
 
 use c2po_compile::{CompileFault, HeaderWhy, back, columns_of, front};
@@ -50,7 +50,7 @@ fn open_spec(alloc: Global, text: &[u8]) -> Result<Opened, Status>
         file_refusal FileKind.Spec text.now ≡ Some status) }
     ensures no_call { IfErr result TellsNoCall }
 {
-    let spec = front(alloc, text).map_err(status_of_compile)?;
+    let spec = front(alloc, text)?;
     Ok(Opened::Spec(spec))
 }
 
@@ -97,8 +97,8 @@ fn compiled(alloc: Global, spec: &TypedSpec, header: Option<&[u8]>) -> Result<Ch
         program_by kind bytes (option_copied header.entry) ≡ Err status) }
     ensures no_call { IfErr result TellsNoCall }
 {
-    let columns = columns_of(alloc, spec, header).map_err(status_of_compile)?;
-    back(alloc, spec, &columns).map_err(status_of_compile)
+    let columns = columns_of(alloc, spec, header).map_err(status_of_trace)?;
+    back(alloc, spec, &columns).map_err(status_of_trace)
 }
 
 /// Moves the stored signals of a program to the columns of a header. A program of version 1 stores none.
@@ -122,20 +122,20 @@ fn bound_under_header(
     }
 }
 
-fn status_of_compile(fault: CompileFault) -> Status
-    ensures status { result ≡ compile_status fault }
+/// The status of a run whose specification isn't compiled under the header of its trace. A name that the header lacks,
+/// or has twice, is a fault of the first line.
+fn status_of_trace(fault: CompileFault) -> Status
+    ensures status { result ≡ trace_status fault }
     ensures no_call { TellsNoCall result }
 {
     match fault {
-        CompileFault::Refused(line, why) => Status::Refused(line, why),
-        CompileFault::BadHeader(HeaderWhy::NoHeader) => Status::BadHeader(HeaderWhy::NoHeader),
         CompileFault::BadHeader(HeaderWhy::Missing(name)) => {
             Status::BadTrace(1, TraceWhy::Missing(name))
         }
         CompileFault::BadHeader(HeaderWhy::Twice(name)) => {
             Status::BadTrace(1, TraceWhy::Twice(name))
         }
-        CompileFault::Memory => Status::Memory,
+        fault => Status::from(fault),
     }
 }
 
@@ -143,10 +143,5 @@ fn status_of_header(fault: HeaderFault) -> Status
     ensures status { result ≡ header_status fault }
     ensures no_call { TellsNoCall result }
 {
-    match fault {
-        HeaderFault::NoHeader => Status::BadHeader(HeaderWhy::NoHeader),
-        HeaderFault::Missing(name) => Status::BadTrace(1, TraceWhy::Missing(name)),
-        HeaderFault::Twice(name) => Status::BadTrace(1, TraceWhy::Twice(name)),
-        HeaderFault::Memory => Status::Memory,
-    }
+    status_of_trace(CompileFault::from(fault))
 }

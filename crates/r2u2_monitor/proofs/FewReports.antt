@@ -18,7 +18,7 @@ use Rattle.mltl_base.specs.declared.report.Style.TheVariants.{Each, Runs}
 use Rattle.mltl_base.specs.declared.report.Word.{Word}
 use Rattle.mltl_base.specs.Atoms.{Atom, Row}
 use Rattle.mltl_base.specs.Formula.{Core, Formula, bpd, plain}
-use Rattle.mltl_base.specs.Programs.{atoms, core_at, formula_at, op_formula, formulas_after, output_of, outputs}
+use Rattle.mltl_base.specs.Programs.{atoms, core_at, formula_at, op_formula, formulas_after, output_of}
 use Rattle.mltl_base.specs.Queues.{HasBounds}
 use Rattle.mltl_base.specs.Reports.{Output, contract, delay, formula, goes_on, known_status, of_row, of_words, status, words}
 use Rattle.mltl_base.specs.Settled.{IsOrdered}

@@ -1,6 +1,6 @@
 -- A monitor holds the bytes that its program takes.
 
-use Rattle.std.proofs.Common.{◌≡◌, [], length, ap, arith}
+use Rattle.std.proofs.Common.{◌≡◌, [], length, arith}
 use Rattle.std.proofs.lemmas.List.{length-map}
 use Rattle.mltl_base.specs.Queues.{best_delays, best_of, worst_delays, worst_of}
 use Rattle.mltl_base.specs.declared.program.Program.{Program}
@@ -11,7 +11,6 @@ use Rattle.obs_verify.specs.declared.Checked.TheView as checked
 use Rattle.ft_engine.specs.Standing as future
 use Rattle.pt_boxes.specs.Standing as past
 use Rattle.trace_feed.proofs.ReadingLaws.{length-readings_of}
-use Rattle.trace_feed.specs.Readings.{readings_of}
 use Rattle.r2u2_monitor.specs.Bytes.{bytes_of, bytes_of_checked, monitor_bytes}
 use Rattle.r2u2_monitor.specs.Holders.{bytes_in_checked, bytes_in_monitor}
 use Rattle.r2u2_monitor.specs.declared.monitor.Monitor.TheInside.{Inside as MonitorFields}

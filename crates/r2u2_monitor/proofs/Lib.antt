@@ -10,3 +10,4 @@ pub mod Fitting
 pub mod Delays
 pub mod FewReports
 pub mod Known
+mod Giving

@@ -18,7 +18,6 @@ use Rattle.r2u2_monitor.specs.declared.bytes.TheConstants.{PT_OP_BYTES, READER_B
 use Rattle.r2u2_monitor.specs.declared.bytes.TheConstants.{SIZE_BYTES, TIME_BYTES}
 use Rattle.r2u2_monitor.specs.declared.running.Running.{Running}
 use Rattle.r2u2_monitor.specs.declared.state.State.{State}
-use Rattle.r2u2_monitor.specs.Monitoring.{program_of}
 
 -- ---- how many it takes
 

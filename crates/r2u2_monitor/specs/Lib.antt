@@ -3,6 +3,8 @@ pub mod Monitoring
 pub mod Bytes
 pub mod Holders
 pub mod Bursts
+pub mod Work
+pub mod Stepping
 pub mod RowFaults
 pub mod TakingLines
 pub use Rattle.mltl_base.specs.Atoms

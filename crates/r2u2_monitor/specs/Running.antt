@@ -1,7 +1,6 @@
 -- What runs in a monitor, after some rows.
 
-use Rattle.std.specs.Prelude.{◌≡◌, ℕ, ◌+◌, ◌<◌, Option, None, Some, List, [], ◌∷◌, ◌++◌, All, length, slice_set}
-use Rattle.mltl_base.specs.declared.program.Program.{Program}
+use Rattle.std.specs.Prelude.{◌≡◌, ℕ, ◌+◌, ◌-◌, ◌<◌, Option, None, Some, List, [], ◌∷◌, ◌++◌, All, length, slice_set}
 use Rattle.mltl_base.specs.declared.report.Report.{Report}
 use Rattle.mltl_base.specs.declared.report.Style.{Style}
 use Rattle.mltl_base.specs.Atoms.{Row}
@@ -9,8 +8,6 @@ use Rattle.mltl_base.specs.Programs.{IsFit, outputs}
 use Rattle.mltl_base.specs.Reports.{of_row}
 use Rattle.obs_verify.specs.Layout.{HasLayout}
 use Rattle.obs_verify.specs.WellFormed.{IsWellFormed}
-use Rattle.ft_engine.specs.Running as future
-use Rattle.pt_boxes.specs.Running as past
 use Rattle.contract_status.specs.declared.cursor.Cursor.{Cursor}
 use Rattle.contract_status.specs.Cursors.{FitsCursor}
 use Rattle.contract_status.specs.Open as status
@@ -67,6 +64,13 @@ pub record EnginesTakeRow (row : Row) (before after : Running) : Type 0 where
       → open_by style after (rows ++ row ∷ []) ≡ of_row style 0 (outputs before.checked) rows row
   pub told : after.outs ≡ before.outs
 
--- the most steps of one row, in both engines
-abbrev pub row_work : Program → ℕ
-row_work program = future.row_work program + past.row_work program
+-- how many outputs a search from the cursor on may still look at
+abbrev pub outs_left : Running → Cursor → ℕ
+outs_left running cursor = length running.checked.outs - cursor.out
+
+-- These reports were given, the first of those that were open, and the others still are. Nothing but next times moved.
+pub record YieldsMany (style : Style) (told : List Report) (before after : Running) : Type 0 where
+  pub first : (rows : List Row) → HasTaken before rows
+      → open_by style before rows ≡ told ++ open_by style after rows
+  pub stands : (rows : List Row) → HasTaken before rows → HasTaken after rows
+  pub moved : after ≡ record before { outs = after.outs }

@@ -1,6 +1,6 @@
 //! How many reports one row brings at most, as known from the program alone.
 
-ghost use Rattle.std.specs.Prelude.{◌≡◌, ◌^◌, ◌<◌, ◌≤◌, All, length, sum_by};
+ghost use Rattle.std.specs.Prelude.{◌≡◌, ◌*◌, ◌^◌, ◌<◌, ◌≤◌, All, length, sum_by};
 ghost use Rattle.mltl_base.specs.declared.interval.Engine.TheVariants.{Ft as Future};
 ghost use Rattle.mltl_base.specs.Programs.{formula_at};
 ghost use Rattle.mltl_base.specs.Queues.{NamesInstructions};
@@ -12,7 +12,8 @@ use obs_verify::Checked;
 /// The most reports that one row brings, of all outputs together: as many with one report for each time, and no more
 /// with one for each run. It takes no memory.
 pub fn most_reports(checked: &Checked) -> u64
-    ensures { result ≡ most_reports checked.now }
+    ensures most { result ≡ most_reports checked.now }
+    ensures few { result < 2 ^ 57 }
 {
     most_of_outputs(checked, checked.program().outs.as_slice())
 }
@@ -21,7 +22,8 @@ fn most_of_outputs(checked: &Checked, outs: &[Out]) -> u64
     requires named { All (NamesInstructions (length checked.now.ft) (length checked.now.pt))
         outs.now }
     requires few { length outs.now < 2 ^ 32 }
-    ensures { result ≡ sum_by (most_of checked.now) outs.now }
+    ensures most { result ≡ sum_by (most_of checked.now) outs.now }
+    ensures few { result ≤ 2 ^ 25 * length outs.now }
 {
     let mut most = 0;
     for out in outs {
@@ -34,7 +36,7 @@ fn most_of_outputs(checked: &Checked, outs: &[Out]) -> u64
 fn most_of_output(checked: &Checked, out: &Out) -> u64
     requires { NamesInstructions (length checked.now.ft) (length checked.now.pt) out.now }
     ensures most { result ≡ most_of checked.now out.now }
-    ensures few { result ≤ 2 ^ 32 }
+    ensures few { result ≤ 2 ^ 25 }
 {
     match out {
         Out::Formula(engine, i, _) => most_of_two(checked, *engine, *i, *i),
@@ -46,7 +48,7 @@ fn most_of_two(checked: &Checked, engine: Engine, i: u32, j: u32) -> u64
     requires first { engine ≡ Future → i < length checked.now.ft }
     requires second { engine ≡ Future → j < length checked.now.ft }
     ensures most { result ≡ most_over checked.now engine i j }
-    ensures few { result ≤ 2 ^ 32 }
+    ensures few { result ≤ 2 ^ 25 }
 {
     match engine {
         Engine::Ft => most_of_future(checked, i, j),
@@ -61,7 +63,7 @@ fn most_of_future(checked: &Checked, i: u32, j: u32) -> u64
     requires second { j < length checked.now.ft }
     ensures most { result
         ≡ spread (formula_at checked.now Future i) (formula_at checked.now Future j) }
-    ensures few { result ≤ 2 ^ 32 }
+    ensures few { result ≤ 2 ^ 25 }
 {
     let worsts = checked.delays().worst.as_slice();
     let latest = worsts[i as usize].max(worsts[j as usize]);

@@ -21,6 +21,6 @@ pub use mltl_base::steps::Steps;
 pub use mltl_base::{Report, Style, Word};
 pub use monitor::Monitor;
 pub use obs_verify::Checked;
-pub use queries::{delay_of, row_steps};
+pub use queries::{delay_of, row_work};
 pub use row_fault::RowFault;
 pub use trace_feed::{HeaderFault, RowAnswer, bind_to_header};

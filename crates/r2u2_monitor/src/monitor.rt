@@ -1,6 +1,6 @@
 //! The monitor.
 
-use crate::row_buffers::RowBuffers;
+use crate::row_buffers::{RowBuffers, copy_row};
 use crate::row_fault::RowFault;
 use crate::running::Running;
 use crate::state::State;
@@ -48,7 +48,7 @@ impl Model for Monitor {
 }
 
 impl Monitor {
-    ghost use Rattle.std.specs.Prelude.{◌≡◌, ◌+◌, ◌^◌, ◌<◌, ◌≤◌, ◌↔◌, List, [], IfErr, IfOk, IsOk, IsTrue, MatchOption, OnErr, OnOk, length};
+    ghost use Rattle.std.specs.Prelude.{◌≡◌, ◌+◌, ◌*◌, ◌^◌, ◌<◌, ◌≤◌, ◌↔◌, List, [], IfErr, IfOk, IsOk, IsTrue, MatchOption, OnErr, OnOk, drop, length, take};
     ghost use Rattle.mltl_base.specs.declared.limits.TheConstants.{MAX_MISSION, TIME_END};
     ghost use Rattle.arrayvec.specs.ArrayVec.{array_vec_len};
     ghost use Rattle.mltl_base.specs.declared.report.Style.{Style as Form};
@@ -58,7 +58,8 @@ impl Monitor {
     ghost use Rattle.mltl_base.specs.Programs.{IsFit, output_names};
     ghost use Rattle.r2u2_monitor.specs.Bytes.{bytes_of, monitor_bytes};
     ghost use Rattle.r2u2_monitor.specs.Bursts.{OpensFew};
-    ghost use Rattle.r2u2_monitor.specs.Running.{row_work};
+    ghost use Rattle.r2u2_monitor.specs.Work.{row_work, running_work, taking_work, telling_work};
+    ghost use Rattle.r2u2_monitor.specs.Stepping.{ReturnsMany, StepsOver};
     ghost use Rattle.trace_feed.specs.Rows.{IsMeaningOf, line_meaning};
     ghost use Rattle.r2u2_monitor.specs.TakingLines.{TakesLine};
     ghost use Rattle.r2u2_monitor.specs.Monitoring.{KeepsKnown, ReturnsNext, IsDrained, IsSame, Stands, TakesRow, last_of, open_in, program_of, read_of, taken_by};
@@ -119,7 +120,6 @@ impl Monitor {
 
     /// Takes the next row, with one number for each column, if it is valid and the monitor is ready for it. Otherwise
     /// nothing changes, and the first cause is returned. It does not allocate.
-    #[tactic(auto, using(crate::proofs::Fitting::unready))]
     pub fn take(&mut self, row: &[i64]) -> Result<(), RowFault>
         ensures takes { OnOk result (TakesRow row.now self.old self.new) }
         ensures few { OnOk result (OpensFew row.now self.old self.new) }
@@ -127,40 +127,98 @@ impl Monitor {
         ensures cause { IfErr result (λ fault. IsRowCause fault self.old row.now) }
         ensures same { OnErr result (self.new ≡ self.old) }
     {
-        if !self.is_drained() {
+        self.take_alone::<Brand>(row, Blank::new(1))
+    }
+
+    /// Takes a row with a separate counter.
+    #[inline(always)]
+    fn take_alone<L: Ledger>(&mut self, row: &[i64], blank: Blank) -> Result<(), RowFault>
+        requires name { blank.name ≡ L.name }
+        requires parts { blank.parts ≡ L.parts }
+        requires some_parts { 0 < blank.parts }
+        ensures takes { OnOk result (TakesRow row.now self.old self.new) }
+        ensures few { OnOk result (OpensFew row.now self.old self.new) }
+        ensures ready { IsOk result ↔ IsReady self.old row.now }
+        ensures cause { IfErr result (λ fault. IsRowCause fault self.old row.now) }
+        ensures same { OnErr result (self.new ≡ self.old) }
+    {
+        self.try_take(row, &mut Steps::<L>::start(blank))
+    }
+
+    /// Takes the next row as `take` does. Its steps are the outputs that it asks for reports, the instructions of the
+    /// Booleanizer and the columns, and those of `advance`.
+    #[inline(always)]
+    #[tactic(auto, using(crate::proofs::Fitting::unready))]
+    pub fn try_take<L: Ledger>(&mut self, row: &[i64], steps: &mut Steps<L>) -> Result<(), RowFault>
+        ensures takes { OnOk result (TakesRow row.now self.old self.new) }
+        ensures few { OnOk result (OpensFew row.now self.old self.new) }
+        ensures ready { IsOk result ↔ IsReady self.old row.now }
+        ensures cause { IfErr result (λ fault. IsRowCause fault self.old row.now) }
+        ensures same { OnErr result (self.new ≡ self.old) }
+        ensures counted { steps.new ≤ steps.old + taking_work (program_of self.old) }
+    {
+        if !self.drained_in(steps) {
             return Err(RowFault::ReportsLeft);
         }
-        if let Some(column) = self.unfit_column(row) {
+        if let Some(column) = self.unfit_column(row, steps) {
             return Err(RowFault::NotARow(column));
         }
         if self.rows_taken() >= MAX_MISSION {
             return Err(RowFault::TooManyRows);
         }
-        self.take_fit::<Brand>(row, Blank::new(1));
+        self.advance(row, steps);
         Ok(())
     }
 
+    /// Takes the next row as `take` does, and writes its reports, in a style, to the front of a slice, as many as there is
+    /// room for. Returns how many there were; where there was room for more, none is left. From the first question to the
+    /// last report it takes no more steps than `row_work` says.
+    pub fn step<L: Ledger>(
+        &mut self,
+        row: &[i64],
+        style: Style,
+        reports: &mut [Report],
+        steps: &mut Steps<L>,
+    ) -> Result<usize, RowFault>
+        ensures steps_over { IfOk result (λ count.
+            StepsOver style row.now (take count reports.new) self.old self.new) }
+        ensures rest { IfOk result (λ count. drop count reports.new ≡ drop count reports.old) }
+        ensures drained { IfOk result (λ count. count < length reports.old → IsDrained self.new) }
+        ensures ready { IsOk result ↔ IsReady self.old row.now }
+        ensures cause { IfErr result (λ fault. IsRowCause fault self.old row.now) }
+        ensures same { OnErr result (self.new ≡ self.old) }
+        ensures unwritten { OnErr result (reports.new ≡ reports.old) }
+        ensures counted { steps.new ≤ steps.old + row_work (program_of self.old) }
+    {
+        self.represents();
+        match self.try_take(row, steps) {
+            Err(fault) => Err(fault),
+            Ok(()) => Ok(self.next_many(style, reports, steps)),
+        }
+    }
+
+    /// It represents some rows. This does nothing.
+    fn represents(&self)
+        ensures { (rows : List Row) × Stands self.now rows }
+    {
+        let _taken = self.state.running.taken;
+    }
+
     /// The first column from which the numbers aren't a row of the program. None where they are one.
-    fn unfit_column(&self, row: &[i64]) -> Option<u32>
-        ensures { MatchOption result (IsFit (program_of self.now) row.now)
+    fn unfit_column<L: Ledger>(&self, row: &[i64], steps: &mut Steps<L>) -> Option<u32>
+        ensures unfit { MatchOption result (IsFit (program_of self.now) row.now)
             (λ column. IsUnfitAt (program_of self.now) row.now column) }
+        ensures counted { steps.new
+            ≤ steps.old + length (program_of self.now).bz + (program_of self.now).width }
+        ensures counted_fit { IsFit (program_of self.now) row.now
+            → steps.new ≤ steps.old + length (program_of self.now).bz }
     {
-        unfit_column(&self.state.running.checked, &self.readings, row)
+        unfit_column(&self.state.running.checked, &self.readings, row, steps)
     }
 
-    /// Takes a row with a separate counter.
-    fn take_fit<L: Ledger>(&mut self, row: &[i64], blank: Blank)
-        requires name { blank.name ≡ L.name }
-        requires parts { blank.parts ≡ L.parts }
-        requires some_parts { 0 < blank.parts }
-        requires ready { IsReady self.old row.now }
-        ensures { TakesRow row.now self.old self.new }
-    {
-        self.advance(row, &mut Steps::<L>::start(blank));
-    }
-
-    /// Takes the next row, of one number for each column. Its steps are the reads and writes of queues and boxes. It brings
-    /// at most as many reports as `most_reports` says, and what was known before is a prefix of what is known after it.
+    /// Takes the next row, of one number for each column. Its steps are the columns, the instructions of the Booleanizer, and
+    /// the reads and writes of queues and boxes. It brings at most as many reports as `most_reports` says, and what was known
+    /// before is a prefix of what is known after it.
     pub fn advance<L: Ledger>(&mut self, fields: &[i64], steps: &mut Steps<L>)
         requires drained { IsDrained self.old }
         requires early { taken_by self.old < MAX_MISSION }
@@ -168,9 +226,10 @@ impl Monitor {
         ensures takes { TakesRow fields.now self.old self.new }
         ensures few { OpensFew fields.now self.old self.new }
         ensures known { KeepsKnown fields.now self.old self.new }
-        ensures counted { steps.new ≤ steps.old + row_work (program_of self.old) }
+        ensures counted { steps.new
+            ≤ steps.old + ((program_of self.old).width + running_work (program_of self.old)) }
     {
-        self.state.last.as_mut_slice().copy_from_slice(fields);
+        copy_row(fields, self.state.last.as_mut_slice(), steps);
         self.state.running.take(fields, steps);
         self.cursor = Cursor::start();
     }
@@ -181,7 +240,7 @@ impl Monitor {
         requires early { taken_by self.old < MAX_MISSION }
         ensures line { TakesLine result line.now self.old self.new }
         ensures program { program_of self.new ≡ program_of self.old }
-        ensures counted { steps.new ≤ steps.old + row_work (program_of self.old) }
+        ensures counted { steps.new ≤ steps.old + running_work (program_of self.old) }
     {
         let answer = self.read_line(line);
         if let RowAnswer::Good = answer {
@@ -213,7 +272,7 @@ impl Monitor {
         requires early { taken_by self.old < MAX_MISSION }
         ensures takes { TakesRow (last_of self.old) self.old self.new }
         ensures read { read_of self.new ≡ read_of self.old }
-        ensures counted { steps.new ≤ steps.old + row_work (program_of self.old) }
+        ensures counted { steps.new ≤ steps.old + running_work (program_of self.old) }
     {
         self.state.running.take(self.state.last.as_slice(), steps);
         self.cursor = Cursor::start();
@@ -225,7 +284,7 @@ impl Monitor {
         requires drained { IsDrained self.old }
         requires early { taken_by self.old < MAX_MISSION }
         ensures takes { TakesRow (read_of self.old) self.old self.new }
-        ensures counted { steps.new ≤ steps.old + row_work (program_of self.old) }
+        ensures counted { steps.new ≤ steps.old + running_work (program_of self.old) }
     {
         mem::swap(&mut self.state.last, &mut self.state.read);
         self.state.running.take(self.state.last.as_slice(), steps);
@@ -237,7 +296,39 @@ impl Monitor {
     pub fn next(&mut self, style: Style) -> Option<Report>
         ensures { ReturnsNext style result self.old self.new }
     {
-        self.state.running.next(style, &mut self.cursor)
+        self.next_alone::<Brand>(style, Blank::new(1))
+    }
+
+    /// The next report, with a separate counter.
+    #[inline(always)]
+    fn next_alone<L: Ledger>(&mut self, style: Style, blank: Blank) -> Option<Report>
+        requires name { blank.name ≡ L.name }
+        requires parts { blank.parts ≡ L.parts }
+        requires some_parts { 0 < blank.parts }
+        ensures { ReturnsNext style result self.old self.new }
+    {
+        let mut steps = Steps::<L>::start(blank);
+        self.state.running.next(style, &mut self.cursor, &mut steps)
+    }
+
+    /// Writes the next reports of the last row, in a style, to the front of a slice, as many as there is room for, and returns
+    /// how many there were. Where there was room for more, none is left. Its steps are the outputs that it looks at, and two
+    /// for each report.
+    pub fn next_many<L: Ledger>(
+        &mut self,
+        style: Style,
+        reports: &mut [Report],
+        steps: &mut Steps<L>,
+    ) -> usize
+        ensures returns { ReturnsMany style (take result reports.new) self.old self.new }
+        ensures rest { drop result reports.new ≡ drop result reports.old }
+        ensures within { result ≤ length reports.old }
+        ensures drained { result < length reports.old → IsDrained self.new }
+        ensures counted { steps.new ≤ steps.old + telling_work (program_of self.old) result }
+    {
+        self.state
+            .running
+            .next_many(style, &mut self.cursor, reports, steps)
     }
 
     /// The next report of the last row, one for each newly known time. `None`, and no change, where none is left.
@@ -271,6 +362,29 @@ impl Monitor {
         ensures open { (style : Form) (rows : List Row) → Stands self.now rows
             → IsTrue result ↔ (open_in style self.now rows ≡ []) }
     {
-        self.state.running.is_drained(self.cursor)
+        self.drained_alone::<Brand>(Blank::new(1))
+    }
+
+    /// Whether all reports were given, with a separate counter.
+    fn drained_alone<L: Ledger>(&self, blank: Blank) -> bool
+        requires name { blank.name ≡ L.name }
+        requires parts { blank.parts ≡ L.parts }
+        requires some_parts { 0 < blank.parts }
+        ensures drained { IsTrue result ↔ IsDrained self.now }
+        ensures open { (style : Form) (rows : List Row) → Stands self.now rows
+            → IsTrue result ↔ (open_in style self.now rows ≡ []) }
+    {
+        self.drained_in(&mut Steps::<L>::start(blank))
+    }
+
+    /// Whether all reports were given, in steps that are the outputs that it looks at.
+    #[inline(always)]
+    fn drained_in<L: Ledger>(&self, steps: &mut Steps<L>) -> bool
+        ensures drained { IsTrue result ↔ IsDrained self.now }
+        ensures open { (style : Form) (rows : List Row) → Stands self.now rows
+            → IsTrue result ↔ (open_in style self.now rows ≡ []) }
+        ensures counted { steps.new ≤ steps.old + length (program_of self.now).outs + 1 }
+    {
+        self.state.running.is_drained(self.cursor, steps)
     }
 }

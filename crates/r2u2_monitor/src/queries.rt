@@ -8,9 +8,11 @@ ghost use Rattle.mltl_base.specs.Programs.{formula_at, output_of, outputs};
 ghost use Rattle.mltl_base.specs.Queues.{AreInOrder, IsAfterOperands, NamesInstructions};
 ghost use Rattle.mltl_base.specs.Reports.{delay};
 ghost use Rattle.ft_engine.specs.Queues.{operand_size, work_before, work_of};
+ghost use Rattle.obs_verify.specs.Layout.{HasLayout};
 ghost use Rattle.obs_verify.specs.Running.{RunsFuture, RunsPast};
-ghost use Rattle.r2u2_monitor.specs.Running.{row_work};
+ghost use Rattle.r2u2_monitor.specs.Work.{row_work, running_work, taking_work, telling_work};
 
+use crate::bursts::most_reports;
 use mltl_base::{Engine, FtOp, Out, Program};
 use obs_verify::Checked;
 
@@ -46,13 +48,57 @@ fn delay_of_formula(checked: &Checked, engine: Engine, i: u32) -> u32
     }
 }
 
-/// The most steps of one row: reads and writes of queues and boxes.
-pub fn row_steps(checked: &Checked) -> u64
+/// The most steps of one row, from the question whether it can be taken to the last of its reports: instructions of the three
+/// parts, with the reads and writes of queues and boxes, columns, outputs, and reports.
+pub fn row_work(checked: &Checked) -> u64
     ensures { result ≡ row_work checked.now }
 {
     let program = program_of(checked);
+    taking_steps(program) + telling_steps(program, most_reports(checked))
+}
+
+/// The most steps in which a row is tried and taken.
+fn taking_steps(program: &Program) -> u64
+    requires layout { HasLayout program.now }
+    requires future { RunsFuture program.now }
+    requires past { RunsPast program.now }
+    ensures steps { result ≡ taking_work program.now }
+    ensures few { result < 2 ^ 63 }
+{
+    let looked_at = program.outs.len() as u64 + program.bz.len() as u64;
+    looked_at + column_steps(program.width) + running_steps(program) + 1
+}
+
+/// A step for each column.
+fn column_steps(width: u32) -> u64
+    ensures steps { result ≡ width }
+    ensures few { result < 2 ^ 32 }
+{
+    u64::from(width)
+}
+
+/// The most steps in which so many reports are asked for, and once more.
+fn telling_steps(program: &Program, reports: u64) -> u64
+    requires layout { HasLayout program.now }
+    requires few { reports < 2 ^ 57 }
+    ensures steps { result ≡ telling_work program.now reports }
+    ensures few { result < 2 ^ 60 }
+{
+    program.outs.len() as u64 + 2 * (reports + 1)
+}
+
+/// The most steps in which what runs takes a row: instructions of the Booleanizer, and reads and writes of queues and boxes.
+fn running_steps(program: &Program) -> u64
+    requires layout { HasLayout program.now }
+    requires future { RunsFuture program.now }
+    requires past { RunsPast program.now }
+    ensures steps { result ≡ running_work program.now }
+    ensures few { result < 2 ^ 62 }
+{
     let sizes = &program.sizes;
-    future_steps(program.ft.as_slice(), sizes.ft.as_slice()) + past_steps(sizes.pt.as_slice())
+    program.bz.len() as u64
+        + future_steps(program.ft.as_slice(), sizes.ft.as_slice())
+        + past_steps(sizes.pt.as_slice())
 }
 
 /// The program of a checked one, which both engines can run.
@@ -61,9 +107,7 @@ fn program_of(checked: &Checked) -> &Program
     ensures program { result.now ≡ checked.now }
     ensures future { RunsFuture checked.now }
     ensures past { RunsPast checked.now }
-    ensures future_sizes { length checked.now.sizes.ft ≡ length checked.now.ft }
-    ensures few_future { length checked.now.ft < 2 ^ 32 }
-    ensures few_past { length checked.now.sizes.pt < 2 ^ 32 }
+    ensures layout { HasLayout checked.now }
 {
     checked.program()
 }

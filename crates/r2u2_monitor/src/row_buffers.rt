@@ -1,11 +1,13 @@
 //! The rows that a monitor holds.
 
-ghost use Rattle.std.specs.Prelude.{◌≡◌, length, IfOk};
+ghost use Rattle.std.specs.Prelude.{◌≡◌, ◌+◌, length, IfOk};
 ghost use Rattle.trace_feed.specs.Readings.{readings_of};
 
 use fixed_list::Fixed;
+use mltl_base::steps::Steps;
 use obs_verify::Checked;
 use std::alloc::{AllocError, Global};
+use std::sync::ledger::Ledger;
 use trace_feed::Readings;
 
 /// Room for the last row and for a row that is being read, and how the program reads their columns.
@@ -32,5 +34,17 @@ impl RowBuffers {
             read,
             readings,
         })
+    }
+}
+
+/// Copies a row, in a step for each column. The columns are copied at once, and the count of them costs nothing.
+pub fn copy_row<L: Ledger>(row: &[i64], to: &mut [i64], steps: &mut Steps<L>)
+    requires wide { length to.old ≡ length row.now }
+    ensures copied { to.new ≡ row.now }
+    ensures counted { steps.new ≡ steps.old + length row.now }
+{
+    to.copy_from_slice(row);
+    for _ in 0..row.len() {
+        steps.tick();
     }
 }

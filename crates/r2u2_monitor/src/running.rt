@@ -49,12 +49,13 @@ fn engines(alloc: Global, checked: &Checked) -> Result<Fresh, AllocError>
 }
 
 impl Running {
-    ghost use Rattle.std.specs.Prelude.{◌≡◌, ◌+◌, ◌^◌, ◌<◌, ◌≤◌, ◌↔◌, List, [], length, IfOk, IfSome, IsNone, IsTrue};
+    ghost use Rattle.std.specs.Prelude.{◌≡◌, ◌+◌, ◌*◌, ◌^◌, ◌<◌, ◌≤◌, ◌↔◌, List, [], drop, length, take, IfOk, IfSome, IsNone, IsTrue};
     ghost use Rattle.mltl_base.specs.declared.limits.TheConstants.{MAX_MISSION};
     ghost use Rattle.mltl_base.specs.declared.report.Style.{Style as Form};
     ghost use Rattle.mltl_base.specs.Atoms.{Row};
     ghost use Rattle.mltl_base.specs.Programs.{IsFit};
-    ghost use Rattle.r2u2_monitor.specs.Running.{ResumesAt, YieldsFirst, HasTaken, IsDrained, Yields, EnginesTakeRow, open_by, row_work};
+    ghost use Rattle.r2u2_monitor.specs.Running.{ResumesAt, YieldsFirst, YieldsMany, HasTaken, IsDrained, Yields, EnginesTakeRow, open_by, outs_left};
+    ghost use Rattle.r2u2_monitor.specs.Work.{running_work};
 
     /// Makes the engines of a program, before the first row; the only allocation.
     pub fn load(alloc: Global, checked: Checked) -> Result<Running, AllocError>
@@ -90,7 +91,8 @@ impl Running {
         self.taken = 0;
     }
 
-    /// Takes a row. Its steps are the reads and writes of queues and boxes. It does not allocate.
+    /// Takes a row. Its steps are the instructions of the Booleanizer, and the reads and writes of queues and boxes. It does
+    /// not allocate.
     pub fn take<L: Ledger>(&mut self, fields: &[i64], steps: &mut Steps<L>)
         requires some { (rows : List Row) × HasTaken self.old rows }
         requires drained { IsDrained self.old }
@@ -99,17 +101,23 @@ impl Running {
         requires fit { IsFit self.old.checked fields.now }
         ensures takes { EnginesTakeRow fields.now self.old self.new }
         ensures numbers { length self.new.bz ≡ length self.old.checked.bz }
-        ensures counted { steps.new ≤ steps.old + row_work self.old.checked }
+        ensures counted { steps.new ≤ steps.old + running_work self.old.checked }
     {
-        self.bz.row(&self.checked, fields);
+        self.bz.row(&self.checked, fields, steps);
         self.ft.row(&self.checked, &self.bz, steps);
         self.pt.row(&self.checked, &self.bz, steps);
         self.taken += 1;
     }
 
-    /// The first report that is open, in a style. `None`, and no change, where none is. The search goes on at the cursor.
+    /// The first report that is open, in a style. `None`, and no change, where none is. The search goes on at the cursor. Its
+    /// steps are itself and the outputs that it looks at.
     #[inline(always)]
-    pub fn next(&mut self, style: Style, cursor: &mut Cursor) -> Option<Report>
+    pub fn next<L: Ledger>(
+        &mut self,
+        style: Style,
+        cursor: &mut Cursor,
+        steps: &mut Steps<L>,
+    ) -> Option<Report>
         requires some { (rows : List Row) × HasTaken self.old rows }
         requires early { self.old.taken ≤ MAX_MISSION }
         requires cursor { ResumesAt self.old cursor.old }
@@ -119,19 +127,58 @@ impl Running {
         ensures cursor { ResumesAt self.new cursor.new }
         ensures none { IsNone result → self.new ≡ self.old }
         ensures given { IfSome result (λ report. Yields report self.old self.new) }
+        ensures counted { steps.new + outs_left self.old cursor.new
+            ≤ steps.old + outs_left self.old cursor.old + 2 }
     {
-        self.outs.next_at(style, cursor, &self.checked, &self.ft, &self.pt, self.taken)
+        self.outs.next_at(
+            style,
+            cursor,
+            &self.checked,
+            &self.ft,
+            &self.pt,
+            self.taken,
+            steps,
+        )
     }
 
-    /// Whether no report is open, in either style. The search goes on at the cursor.
+    /// Writes the first reports that are open, in a style, to the front of a slice, as many as there is room for, and returns
+    /// how many there were. Where there was room for more, none is left.
+    pub fn next_many<L: Ledger>(
+        &mut self,
+        style: Style,
+        cursor: &mut Cursor,
+        reports: &mut [Report],
+        steps: &mut Steps<L>,
+    ) -> usize
+        requires some { (rows : List Row) × HasTaken self.old rows }
+        requires early { self.old.taken ≤ MAX_MISSION }
+        requires cursor { ResumesAt self.old cursor.old }
+        ensures yields { YieldsMany style (take result reports.new) self.old self.new }
+        ensures cursor { ResumesAt self.new cursor.new }
+        ensures rest { drop result reports.new ≡ drop result reports.old }
+        ensures within { result ≤ length reports.old }
+        ensures drained { result < length reports.old → IsDrained self.new }
+        ensures counted { steps.new + outs_left self.old cursor.new
+            ≤ steps.old + outs_left self.old cursor.old + 2 * (result + 1) }
+    {
+        for k in 0..reports.len() {
+            match self.next(style, cursor, steps) {
+                None => return k,
+                Some(report) => reports[k] = report,
+            }
+        }
+        reports.len()
+    }
+
+    /// Whether no report is open, in either style. The search goes on at the cursor. Its steps are the outputs that it looks at.
     #[inline(always)]
-    pub fn is_drained(&self, cursor: Cursor) -> bool
+    pub fn is_drained<L: Ledger>(&self, cursor: Cursor, steps: &mut Steps<L>) -> bool
         requires some { (rows : List Row) × HasTaken self.now rows }
         requires cursor { ResumesAt self.now cursor }
         ensures open { (style : Form) (rows : List Row) → HasTaken self.now rows
             → IsTrue result ↔ (open_by style self.now rows ≡ []) }
+        ensures counted { steps.new ≤ steps.old + length self.now.checked.outs + 1 }
     {
-        self.outs
-            .drained_at(cursor, &self.checked, &self.ft, &self.pt, self.taken)
+        self.outs.drained_at(cursor, &self.checked, &self.ft, &self.pt, self.taken, steps)
     }
 }

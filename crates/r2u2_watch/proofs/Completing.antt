@@ -1,14 +1,13 @@
 -- Over a clean trace, without a failed read or write, all is done.
 
 use Rattle.std.proofs.Common.{◌≡◌, ℕ, Option, List, refl, sym, ◌∙◌}
-use Rattle.std.specs.Prelude.{◌++◌}
 use Rattle.mltl_base.specs.declared.report.Style.{Style}
 use Rattle.mltl_base.specs.declared.program.Program.{Program}
 use Rattle.tool_io.specs.declared.host.Place.{Place}
 use Rattle.tool_io.specs.declared.host.Place.TheVariants.{Out, Trace}
 use Rattle.tool_io.proofs.HostLaws.{Rose-by_one}
-use Rattle.tool_io.specs.Log.{Event, OnLog, taken}
-use Rattle.tool_io.specs.Cutting.{Cutting, lines_of}
+use Rattle.tool_io.specs.Log.{Event, OnLog}
+use Rattle.tool_io.specs.Cutting.{Cutting}
 use Rattle.tool_io.proofs.LogLaws.{OnLog-map}
 use Rattle.r2u2_monitor.specs.declared.state.State.{State}
 use Rattle.r2u2_watch.specs.declared.status.Watched as watched

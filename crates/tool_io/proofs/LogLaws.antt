@@ -40,11 +40,7 @@ OnLog-map before now Q a change = record { events = a.events; appended = a.appen
 -- a place is itself
 pub same_place-self : (p : Place) → same_place p p ≡ true
 same_place-self Spec = refl
-same_place-self Header = refl
-same_place-self Program = refl
-same_place-self Trace = refl
-same_place-self Out = refl
-same_place-self Err = refl
+same_place-self _ = refl
 
 pub taken-append : (p : Place) (first second : List Event) → taken p (first ++ second) ≡ taken p first ++ taken p second
 taken-append p [] second = refl

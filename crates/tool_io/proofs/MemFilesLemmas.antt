@@ -67,19 +67,11 @@ found_nowhere name files nowhere =
 
 pub reading_at-readings_of : (files : List NamedBytes) (cursors : Cursors) (place : Place) → reading_at (cursor_readings files cursors) place ≡ option_map (cursor_reading files) (cursor_at cursors place)
 reading_at-readings_of files cursors Spec = refl
-reading_at-readings_of files cursors Header = refl
-reading_at-readings_of files cursors Program = refl
-reading_at-readings_of files cursors Trace = refl
-reading_at-readings_of files cursors Out = refl
-reading_at-readings_of files cursors Err = refl
+reading_at-readings_of files cursors _ = refl
 
 pub readings_of-with_cursor : (files : List NamedBytes) (cursors : Cursors) (place : Place) (cursor : Cursor) → cursor_readings files (with_cursor cursors place cursor) ≡ with_reading (cursor_readings files cursors) place (cursor_reading files cursor)
 readings_of-with_cursor files cursors Spec cursor = refl
-readings_of-with_cursor files cursors Header cursor = refl
-readings_of-with_cursor files cursors Program cursor = refl
-readings_of-with_cursor files cursors Trace cursor = refl
-readings_of-with_cursor files cursors Out cursor = refl
-readings_of-with_cursor files cursors Err cursor = refl
+readings_of-with_cursor files cursors _ cursor = refl
 
 -- all cursors fit where they did, and the one that moved does
 pub fits-with_cursor : (files : List NamedBytes) (cursors : Cursors) (cursor : Cursor) → ((place : Place) → FitsIn files (cursor_at cursors place)) → IsWithin files cursor

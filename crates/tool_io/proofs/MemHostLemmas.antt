@@ -21,11 +21,7 @@ use Rattle.tool_io.specs.MemHost.{Held, faults_of, left_in, noted, failed, logge
 
 raised-rose : (counts : Counts) (place : Place) → RoseByOne (count_at counts place) (count_at (counted_up counts place) place)
 raised-rose counts Spec = refl
-raised-rose counts Header = refl
-raised-rose counts Program = refl
-raised-rose counts Trace = refl
-raised-rose counts Out = refl
-raised-rose counts Err = refl
+raised-rose counts _ = refl
 
 raised-other : (counts : Counts) (place other : Place) → other ≢ place → count_at (counted_up counts place) other ≡ count_at counts other
 raised-other counts Spec Spec differs = absurd (differs refl)
@@ -50,12 +46,9 @@ reading_at-other readings Trace Trace reading differs = absurd (differs refl)
 reading_at-other readings place other reading differs = refl
 
 reading_at-same : (readings : Readings) (place : Place) (reading : Reading) → IsSource place → reading_at (with_reading readings place reading) place ≡ Some reading
-reading_at-same readings Spec reading source = refl
-reading_at-same readings Header reading source = refl
-reading_at-same readings Program reading source = refl
-reading_at-same readings Trace reading source = refl
 reading_at-same readings Out reading source = absurd source
 reading_at-same readings Err reading source = absurd source
+reading_at-same readings _ reading source = refl
 
 left-opened : (stored : Stored) (place other : Place) (name : List ℕ) → other ≢ place → left_of (with_file_at stored place name) other ≡ left_of stored other
 left-opened stored place other name differs =

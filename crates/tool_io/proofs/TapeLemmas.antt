@@ -18,9 +18,7 @@ length-events_of (mark ∷ marks) bytes = omega (arith, length-events_of marks (
 
 event_bytes-event_of : (deed : Deed) (place : Place) (bytes : List ℕ) → event_bytes (event_of deed place bytes) ≡ bytes
 event_bytes-event_of Attach place bytes = refl
-event_bytes-event_of Miss place bytes = refl
-event_bytes-event_of Take place bytes = refl
-event_bytes-event_of Give place bytes = refl
+event_bytes-event_of _ place bytes = refl
 
 -- the buffer holds the bytes of the log and no others
 pub bytes_in-events_of : (marks : List Mark) (bytes : List ℕ) → marked_bytes marks ≡ length bytes → bytes_in (events_of marks bytes) ≡ length bytes

@@ -101,15 +101,7 @@ op_fits ops fields values h i d (IsTrue c) inside is =
     let reads : list_any (reads_truth c) ops ≡ true = list_any_at (reads_truth c) ops i d inside (ap (reads_truth c) (sym is) ∙ eq-eqb c c refl) in
     fits_at ops fields values h c (λ n. (n ≡ pos 0) ⊎ (n ≡ pos 1)) (inl refl) (λ field n found. value_truth ops c field n reads found)
 op_fits ops fields values h i d (Const n) inside is = tt
-op_fits ops fields values h i d (Neg a) inside is = tt
-op_fits ops fields values h i d (Add a b) inside is = tt
-op_fits ops fields values h i d (Sub a b) inside is = tt
-op_fits ops fields values h i d (Mul a b) inside is = tt
-op_fits ops fields values h i d (Div a b) inside is = tt
-op_fits ops fields values h i d (Rem a b) inside is = tt
-op_fits ops fields values h i d (Eq a b) inside is = tt
-op_fits ops fields values h i d (Lt a b) inside is = tt
-op_fits ops fields values h i d (Le a b) inside is = tt
+op_fits ops fields values h i d _ inside is = tt
 
 fit_from : (program : Program) (fields : List (List ℕ)) (values : Row) → length fields ≡ program.width → HaveValues (reading_of program.bz) 0 fields values → IsFit program values
 fit_from program fields values wide h = record {

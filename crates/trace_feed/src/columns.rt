@@ -89,14 +89,14 @@ fn find_columns<T: Named>(
         → (names : Items (Items ℕ)) → AreColumnPlaces names named.now.places
         → columns_of names (map T.name_of signals.now) ≡ Err fault) }
 {
-    let mut of_signal = List::new(alloc);
+    let mut of_signal = List::room_for(alloc, signals.len())?;
     for signal in signals {
         let name = signal.name();
-        of_signal.push(named.places.find(name)?)?;
+        of_signal.push_reserved(named.places.find(name)?);
     }
     Ok(Columns {
         width: named.width,
-        of_signal,
+        of_signal: List::of(of_signal),
     })
 }
 

@@ -3,7 +3,7 @@
 ghost use Rattle.std.specs.Prelude.{◌≡◌, IfOk};
 
 use mltl_base::Name;
-use std::alloc::{AllocError, AllocFailed};
+use std::alloc::AllocError;
 use std::error::Error;
 use std::{fmt, str};
 
@@ -64,16 +64,6 @@ impl From<AllocError> for HeaderFault {
     ghost from_gives = { λ _ fault. fault ≡ Memory };
 
     fn from(_refused: AllocError) -> HeaderFault {
-        HeaderFault::Memory
-    }
-}
-
-impl<T: Drop> From<AllocFailed<T>> for HeaderFault {
-    ghost use Rattle.trace_feed.specs.declared.header_fault.HeaderFault.TheVariants.{Memory};
-
-    ghost from_gives = { λ _ fault. fault ≡ Memory };
-
-    fn from(_refused: AllocFailed<T>) -> HeaderFault {
         HeaderFault::Memory
     }
 }

@@ -1,5 +1,9 @@
+use Rattle.std.proofs.Common.{Option, subst, sym, ◌∙◌}
+use Rattle.r2u2_monitor.specs.declared.state.State.{State}
+use Rattle.r2u2_c.specs.Queries.{MirrorsMonitor}
 use Rattle.r2u2_c.specs.Reports.{style_of}
 use Rattle.r2u2_c.proofs.Calls.{is_open_as, told_by_call, undrained}
+use Rattle.r2u2_c.proofs.Mirrors.{told_after}
 use Rattle.r2u2_c.proofs.exports.r2u2_next.Goals as goal
 
 pub returns-in-Some-next-clause-tells : goal.returns-in-Some-next-clause-tells
@@ -12,3 +16,12 @@ pub returns-in-Some-next-clause-drained : goal.returns-in-Some-next-clause-drain
 returns-in-Some-next-clause-drained c =
     undrained c.deref_mut.result.now c.args.it.now.handle.value
     (is_open_as c.deref_mut.result.now c.in-Some.monitor.value c.args.it.now.handle.value c.in-Some.ensures.taken c.deref_mut.ensures.value) c.in-Some-next.ensures.none.1
+
+pub invariant_of-it-in-Some : goal.invariant_of-it-in-Some
+invariant_of-it-in-Some c =
+    let it = c.args.it.now in
+    let held = is_open_as c.deref_mut.result.now c.in-Some.monitor.value it.handle.value c.in-Some.ensures.taken c.deref_mut.ensures.value in
+    record {
+      told = subst (λ (o : Option State). MirrorsMonitor o it.rows it.width it.outputs it.signals it.steps it.most_reports) (sym c.put.ensures)
+          (told_after c.deref_mut.result.now c.next_of-next.new.monitor it.handle.value it.rows it.rows it.width it.outputs it.signals it.steps it.most_reports held it.told c.next_of-next.ensures.program ((subst (λ (o : Option State). MirrorsMonitor o it.rows it.width it.outputs it.signals it.steps it.most_reports) held it.told).rows ∙ sym c.next_of-next.ensures.as_many));
+    }

@@ -16,6 +16,7 @@ pub loop-ending-init : goal.loop-ending-init
 loop-ending-init g c = record {
   mission = refl;
   style = refl;
+  none = c.new-held.ensures.none;
   within = omega (arith, c.requires.start.no_lines);
   program = refl;
   no_fault = λ place. refl;
@@ -24,15 +25,18 @@ loop-ending-init g c = record {
       (record { program_kept = refl; stands = c.requires.ready.no_rows; drained = c.requires.ready.drained }) c.requires.start.no_lines c.requires.start.no_rows);
 }
 
-pub turn-requires-clause-under_way : goal.turn-requires-clause-under_way
-turn-requires-clause-under_way g c =
+pub turn-requires-clause-ready : goal.turn-requires-clause-ready
+turn-requires-clause-ready g c =
     let was = c.loop-ending.invariant in
     let has = was.log.holds in
     let course = c.loop-ending.course in
     record {
-      drained = has.kept.drained;
-      counted = subst (IsCounted course.reader course.lines) has.kept.stands.taken.stand.count (is_counted was.feed course.reader course.lines has.rows has.keeps);
-      mission = omega (arith, was.mission, c.requires.ready.within);
+      under_way = record {
+        drained = has.kept.drained;
+        counted = subst (IsCounted course.reader course.lines) has.kept.stands.taken.stand.count (is_counted was.feed course.reader course.lines has.rows has.keeps);
+        mission = omega (arith, was.mission, c.requires.ready.within);
+      };
+      none = was.none;
     }
 
 pub loop-ending-preserved : goal.loop-ending-preserved
@@ -46,6 +50,7 @@ loop-ending-preserved g c =
     record {
       mission = goes.same_mission ∙ was.mission;
       style = goes.same_style ∙ was.style;
+      none = c.in_default.ensures.prompt;
       within = goes.within;
       program = c.turn.ensures.program ∙ was.program;
       no_fault = NoFault-then _ _ _ was.no_fault c.in_default.ensures.cause;

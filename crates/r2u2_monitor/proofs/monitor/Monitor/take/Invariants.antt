@@ -1,4 +1,4 @@
 use Rattle.r2u2_monitor.proofs.monitor.Monitor.take.Given as goal
 
-abbrev pub ghosts-take_fit : goal.ghosts-take_fit
-ghosts-take_fit a = record { name = a.blank.name; parts = a.blank.parts }
+abbrev pub ghosts-take_alone : goal.ghosts-take_alone
+ghosts-take_alone a = record { name = a.blank.name; parts = a.blank.parts }

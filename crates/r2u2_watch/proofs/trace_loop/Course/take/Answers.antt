@@ -1,10 +1,15 @@
-use Rattle.std.proofs.Common.{◌∙◌, ap, subst, sym}
+use Rattle.std.proofs.Common.{◌∙◌, [], ap, subst, sym}
+use Rattle.std.specs.declared.ops.ControlFlow.TheVariants.{Continue, Break}
+use Rattle.r2u2_watch.specs.declared.status.Watched.TheVariants.{WriteFault}
 use Rattle.tool_io.proofs.LogLaws.{OnLog-none, OnLog-map}
 use Rattle.r2u2_monitor.specs.Monitoring.{program_of}
 use Rattle.r2u2_monitor.proofs.Keeping.{same_stands}
+use Rattle.r2u2_watch.specs.declared.trace_loop.Course.{Course}
 use Rattle.r2u2_watch.specs.Endings.{why_of}
 use Rattle.r2u2_watch.specs.Feed.{text_meaning}
-use Rattle.r2u2_watch.specs.Turns.{FindsRow, cut_meaning}
+use Rattle.r2u2_watch.specs.Telling.{TellsAll, TellsFront}
+use Rattle.r2u2_watch.specs.Turns.{FindsRow, TakesCut, cut_meaning, rows_found}
+use Rattle.r2u2_watch.proofs.TellLaws.{OnceOut-map, OnceOut-none}
 use Rattle.r2u2_watch.proofs.FoundLaws.{takes_row, takes_front, takes_blank, takes_bad, takes_past, writes_none}
 use Rattle.r2u2_watch.proofs.trace_loop.Course.take.Goals as goal
 
@@ -15,8 +20,15 @@ returns-then-take_after-clause-log g c rows feed stands at =
     let between = c.read.new.monitor in
     let program = program_of before in
     let finds = subst (λ text. FindsRow c.in-Row.copies c.in-Row.reader (text_meaning program course.mission feed text) course.lines rows before between) c.line.ensures (c.in-Row.ensures.told rows feed stands at) in
+    let after = c.take_after.new.monitor in
+    let now : Course = record { mission = course.mission; style = course.style; lines = course.lines; reader = c.in-Row.reader } in
+    let more = rows_found c.in-Row.copies between between in
     OnLog-map _ _ _ (c.if-take_after.ensures.log rows (same_stands before between rows c.read.ensures.same stands))
-    (λ events tells. takes_row c.in-Row.copies c.args.cut.now.number (cut_meaning program course feed c.args.cut.now) course _ rows before between c.take_after.new.monitor events finds c.read.ensures.same tells)
+    (λ events once. OnceOut-map (TellsAll (program_of between) course.style rows more after) (TellsFront (program_of between) course.style rows more after)
+    (TakesCut (Continue tt) program course now feed rows c.args.cut.now after) (TakesCut (Break WriteFault) program course now feed rows c.args.cut.now after) c.take_after.new.held [] events
+    (λ events tells. takes_row c.in-Row.copies c.args.cut.now.number (cut_meaning program course feed c.args.cut.now) course now rows before between after events finds c.read.ensures.same tells)
+    (λ events tells. takes_front c.in-Row.copies c.args.cut.now.number (cut_meaning program course feed c.args.cut.now) c.in-Row.reader course now rows before between after events finds c.read.ensures.same tells)
+    once)
 
 pub returns-else-take_after-clause-log : goal.returns-else-take_after-clause-log
 returns-else-take_after-clause-log g c rows feed stands at =
@@ -33,9 +45,11 @@ returns-in-Blank-clause-log g c rows feed stands at =
     let course = c.args.self.now in
     let before = c.args.monitor.now in
     let program = program_of before in
-    OnLog-none _ _ (takes_blank feed c.args.cut.now.number (cut_meaning program course feed c.args.cut.now) program course rows c.read.new.monitor
+    let after = c.read.new.monitor in
+    OnLog-none _ _ (OnceOut-none (TakesCut (Continue tt) program course course feed rows c.args.cut.now after) (TakesCut (Break WriteFault) program course course feed rows c.args.cut.now after) c.args.held.now [] c.requires.ready.none
+    (takes_blank feed c.args.cut.now.number (cut_meaning program course feed c.args.cut.now) program course rows c.read.new.monitor
     (ap (text_meaning program course.mission feed) (sym c.line.ensures) ∙ c.in-Blank.ensures.told rows feed stands at) at
-    (writes_none rows before c.read.new.monitor c.read.ensures.same stands c.requires.under_way.drained))
+    (writes_none rows before c.read.new.monitor c.read.ensures.same stands c.requires.ready.under_way.drained)))
 
 pub returns-in-Bad-clause-log : goal.returns-in-Bad-clause-log
 returns-in-Bad-clause-log g c rows feed stands at =
@@ -44,7 +58,7 @@ returns-in-Bad-clause-log g c rows feed stands at =
     let program = program_of before in
     OnLog-none _ _ (takes_bad (cut_meaning program course feed c.args.cut.now) c.args.cut.now.number c.number.result (why_of c.in-Bad.fault) program course course rows c.read.new.monitor
     (ap (text_meaning program course.mission feed) (sym c.line.ensures) ∙ c.in-Bad.ensures.told rows feed stands at) c.number.ensures
-    (writes_none rows before c.read.new.monitor c.read.ensures.same stands c.requires.under_way.drained))
+    (writes_none rows before c.read.new.monitor c.read.ensures.same stands c.requires.ready.under_way.drained))
 
 pub returns-in-Past-clause-log : goal.returns-in-Past-clause-log
 returns-in-Past-clause-log g c rows feed stands at =
@@ -53,4 +67,4 @@ returns-in-Past-clause-log g c rows feed stands at =
     let program = program_of before in
     OnLog-none _ _ (takes_past (cut_meaning program course feed c.args.cut.now) c.args.cut.now.number program course course rows c.read.new.monitor
     (ap (text_meaning program course.mission feed) (sym c.line.ensures) ∙ c.in-Past.ensures.told rows feed stands at)
-    (writes_none rows before c.read.new.monitor c.read.ensures.same stands c.requires.under_way.drained))
+    (writes_none rows before c.read.new.monitor c.read.ensures.same stands c.requires.ready.under_way.drained))

@@ -1,7 +1,15 @@
+use Rattle.tool_io.proofs.LogLaws.{OnLog-then}
+use Rattle.r2u2_monitor.specs.Monitoring.{program_of}
 use Rattle.r2u2_watch.specs.Endings.{told_as}
-use Rattle.r2u2_watch.proofs.LineTurns.{Turns-step}
+use Rattle.r2u2_watch.specs.Turns.{Turns}
+use Rattle.r2u2_watch.proofs.TellLaws.{flushed, flush_cause}
 use Rattle.r2u2_watch.proofs.trace_loop.Course.turn.Goals as goal
 
-pub returns-in-Row-clause-log : goal.returns-in-Row-clause-log
-returns-in-Row-clause-log g c rows feed stands at =
-    Turns-step (told_as c.step.result) _ _ _ _ c.args.self.now c.step.new.self feed rows _ _ _ c.in-Row.ensures.log (c.step.ensures.log rows feed stands at)
+pub returns-clause-cause : goal.returns-clause-cause
+returns-clause-cause g c = flush_cause (told_as c.advance-flow.result) (told_as c.flush.result) _ _ _ _ _ _ c.flush.ensures.log.holds c.advance-flow.ensures.cause c.flush.ensures.cause
+
+pub returns-clause-log : goal.returns-clause-log
+returns-clause-log g c rows feed stands at =
+    OnLog-then _ _ _ _ (c.advance-flow.ensures.log rows feed stands at) c.flush.ensures.log
+    (λ first second owes flushes. flushed (λ answer. Turns answer (program_of c.args.monitor.now) c.args.self.now c.advance-flow.new.self feed rows c.args.cut.now c.advance-flow.new.cut c.advance-flow.new.monitor)
+    (told_as c.advance-flow.result) (told_as c.flush.result) c.advance-flow.new.held c.flush.new.held first second owes flushes c.flush.ensures.prompt)

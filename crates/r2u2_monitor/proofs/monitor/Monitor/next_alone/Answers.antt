@@ -2,10 +2,10 @@ use Rattle.std.proofs.Common.{subst}
 use Rattle.r2u2_monitor.specs.declared.state.State.{State}
 use Rattle.r2u2_monitor.specs.Monitoring.{ReturnsNext}
 use Rattle.r2u2_monitor.proofs.Telling.{gives_next}
-use Rattle.r2u2_monitor.proofs.monitor.Monitor.next.Goals as goal
+use Rattle.r2u2_monitor.proofs.monitor.Monitor.next_alone.Goals as goal
 
 pub returns : goal.returns
-returns c =
+returns g c =
     let monitor : State = c.self.inside.state in
     let sound = c.self.invariant.0 in
     subst (λ (before : State). ReturnsNext c.args.style c.next.result before (record monitor { running = c.next.new.self })) c.self.view_is
