@@ -69,21 +69,28 @@ struct Times {
     void print(const char *what) const {
         uint64_t sum = 0;
         for (uint64_t one : least) sum += one;
-        std::printf("%s: mean %.0f ns, most %llu ns\n", what, double(sum) / double(least.size()),
-                    (unsigned long long)*std::max_element(least.begin(), least.end()));
+        std::printf("%s: mean %.0f ns, most %llu ns\n", what, double(sum) / double(least.size()), (unsigned long long)most());
     }
+
+    uint64_t most() const { return *std::max_element(least.begin(), least.end()); }
 };
 
 void print_worst(r2u2 *monitor, const Rows &rows) {
-    Times row_times(rows.size()), report_times(rows.size());
+    Times row_times(rows.size()), report_times(rows.size()), both_times(rows.size());
     Sum sum;
     for (int round = 0; round < 5; round++, r2u2_reset(monitor))
         for (size_t k = 0; k < rows.size(); k++) {
             row_times.note(k, [&] { take(monitor, rows[k]); });
             report_times.note(k, [&] { drain(monitor, &sum); });
         }
+    for (int round = 0; round < 20; round++, r2u2_reset(monitor))
+        for (size_t k = 0; k < rows.size(); k++) both_times.note(k, [&] { take(monitor, rows[k]), drain(monitor, &sum); });
+    both_times.least.erase(both_times.least.begin()); // it comes after a reset
     row_times.print("row");
     report_times.print("its reports");
+    both_times.print("both");
+    double steps = double(r2u2_steps(monitor));
+    std::printf("steps: %.0f, the longest row %.3f ns a step\n", steps, double(both_times.most()) / steps);
 }
 
 }

@@ -242,3 +242,106 @@ void rattle_dealloc(void *old) {
         pool->used = (size_t)end;
     }
 }
+
+/* What follows is how many bytes an opening needs. It counts each block that an opening asks for as if none were freed before
+ * the monitor is open, so the order of blocks doesn't matter. A list that grows moves from block to block: it counts thrice. */
+
+/* The numbers of a program's header, and the sum of the sizes that its instructions store. */
+struct r2u2_counts {
+    size_t width;
+    size_t bz;
+    size_t ft;
+    size_t pt;
+    size_t outs;
+    size_t signals;
+    size_t signal_bytes;
+    size_t slots;
+    size_t boxes;
+};
+
+#define HEADER_1 ((size_t)32) /* the bytes of a header of version 1, and of version 2 */
+#define HEADER_2 ((size_t)40)
+#define ENTRY ((size_t)24) /* those of an instruction and of an output, and where an instruction has its size */
+#define SIZE_AT ((size_t)20)
+#define SIGNAL_ENTRY ((size_t)8)
+
+static size_t number_at(const uint8_t *bytes) {
+    return (size_t)bytes[0] | ((size_t)bytes[1] << 8U) | ((size_t)bytes[2] << 16U) | ((size_t)bytes[3] << 24U);
+}
+
+/* The sum of the sizes of instructions. */
+static size_t sizes_of(const uint8_t *entries, size_t count) {
+    size_t sum = 0;
+    for (size_t i = 0; i < count; i++) {
+        sum += number_at(&entries[(i * ENTRY) + SIZE_AT]);
+    }
+    return sum;
+}
+
+/* Reads the counts of a program, and says whether its header says that it has so many bytes. */
+static bool read_counts(const uint8_t *program, size_t count, struct r2u2_counts *counts) {
+    bool whole = false;
+    if (count >= HEADER_1) {
+        bool second = (program[4] == 2U) && (count >= HEADER_2);
+        size_t header = second ? HEADER_2 : HEADER_1;
+        *counts = (struct r2u2_counts){0};
+        counts->width = number_at(&program[8]);
+        counts->bz = number_at(&program[12]);
+        counts->ft = number_at(&program[16]);
+        counts->pt = number_at(&program[20]);
+        counts->outs = number_at(&program[24]);
+        counts->signals = second ? number_at(&program[32]) : 0U;
+        counts->signal_bytes = second ? number_at(&program[36]) : 0U;
+        size_t entries = ENTRY * (counts->bz + counts->ft + counts->pt + counts->outs);
+        size_t names = number_at(&program[28]) + counts->signal_bytes;
+        whole = count == (header + entries + (SIGNAL_ENTRY * counts->signals) + names);
+        if (whole) {
+            const uint8_t *future = &program[header + (ENTRY * counts->bz)];
+            counts->slots = sizes_of(future, counts->ft);
+            counts->boxes = sizes_of(&future[ENTRY * counts->ft], counts->pt);
+        }
+    }
+    return whole;
+}
+
+/* A block with `count` elements; none where there are no elements. */
+static size_t block_for(size_t size, size_t count) {
+    return (count == 0U) ? 0U : (sizeof(struct r2u2_block) + rounded(size * count));
+}
+
+/* A list that was made with room for its members, up to an eighth more than they are. */
+static size_t list_for(size_t size, size_t count) { return block_for(size, count + ((count + 7U) / 8U)); }
+
+static size_t grown_for(size_t size, size_t count) { return 3U * list_for(size, count); }
+
+/* Reading: the lists of a program, and five that hold its entries for a while. */
+static size_t reading_of(const struct r2u2_counts *counts) {
+    return list_for(16U, counts->bz) + list_for(24U + 20U, counts->ft) + list_for(24U + 20U, counts->pt) +
+           list_for(4U, counts->ft) + list_for(4U, counts->pt) + list_for(20U + 88U, counts->outs) +
+           list_for(8U + 80U, counts->signals) + (4U * sizeof(struct r2u2_block));
+}
+
+/* Verifying: columns, names in order, ranges, delays, sizes, and the signal that each instruction reads. */
+static size_t verifying_of(const struct r2u2_counts *counts) {
+    size_t columns = block_for(2U, counts->width) + block_for(8U, counts->width);
+    size_t names = grown_for(24U, counts->signals) + counts->signal_bytes +
+                   (counts->signals * (sizeof(struct r2u2_block) + UNIT));
+    return columns + names + grown_for(16U, counts->bz) + grown_for(8U, counts->bz) + (4U * grown_for(4U, counts->ft)) +
+           grown_for(4U, counts->pt);
+}
+
+/* Loading: the monitor, what runs, and for each column how it is read and two numbers. */
+static size_t loading_of(const struct r2u2_counts *counts) {
+    return block_for(512U, 1U) + block_for(8U, counts->bz) + block_for(72U, counts->ft) + block_for(16U, counts->slots) +
+           block_for(40U, counts->pt) + block_for(16U, counts->boxes) + block_for(8U, counts->outs) +
+           block_for(1U, counts->width) + (2U * block_for(8U, counts->width));
+}
+
+size_t r2u2_open_bytes(const uint8_t *program, size_t count) {
+    struct r2u2_counts counts = {0};
+    size_t bytes = 0;
+    if (read_counts(program, count, &counts)) {
+        bytes = (2U * UNIT) + reading_of(&counts) + verifying_of(&counts) + loading_of(&counts);
+    }
+    return bytes;
+}

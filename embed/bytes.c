@@ -1,5 +1,6 @@
-/* bytes PROGRAM..: checks of each program that r2u2_bytes returns to the byte what its monitor holds, and prints what the
- * arena needs for it: for its blocks, and with what opening left free between them. */
+/* bytes PROGRAM..: checks of each program that r2u2_bytes returns to the byte what its monitor holds, and that an array of
+ * r2u2_open_bytes suffices to open it; prints what the arena needs for it: for its blocks, and with what opening left free
+ * between them, and what r2u2_open_bytes returns. */
 #include <stdio.h>
 
 #define rattle_alloc arena_alloc
@@ -89,7 +90,9 @@ static bool is_told(const char *name) {
     size_t count = read_program(name);
     r2u2_arena(memory, sizeof memory);
     if (r2u2_bytes(program, count, &told, &fault) != R2U2_DONE || sum_of_held().blocks || program_pool.used) return false;
-    r2u2_arena(memory, sizeof memory);
+    size_t enough = r2u2_open_bytes(program, count);
+    if (enough > sizeof memory) return false;
+    r2u2_arena(memory, enough);
     if (r2u2_open(&it, program, count, &fault) != R2U2_DONE) return false;
     struct sum opened = sum_of_held();
     size_t most = program_pool.most, before = calls;
@@ -99,8 +102,8 @@ static bool is_told(const char *name) {
     }
     bool is_so = told == opened.bytes && opened.blocks <= R2U2_BLOCKS && calls == before;
     r2u2_close(&it);
-    printf("%s: %zu bytes in %zu blocks, %zu in the arena, which needs %zu\n", name, opened.bytes, opened.blocks,
-           opened.whole, most);
+    printf("%s: %zu bytes in %zu blocks, %zu in the arena, which needs %zu, and %zu suffice\n", name, opened.bytes,
+           opened.blocks, opened.whole, most, enough);
     return is_so && sum_of_held().blocks == 0 && program_pool.used == 0;
 }
 

@@ -54,7 +54,7 @@ else
 	rm -f $(EMBED)/libr2u2_heap.a
 	$(TARGET_AR) rcs $(EMBED)/libr2u2_heap.a $(EMBED)/heap.o
 endif
-	cp include/r2u2.h include/r2u2_alloc.h embed/r2u2_checked.h embed/r2u2_text.h embed/arena.h embed/arena.c embed/memory.c $(EMBED)
+	cp include/r2u2.h include/r2u2_alloc.h embed/r2u2_checked.h embed/r2u2_kept.h embed/r2u2_text.h embed/arena.h embed/arena.c embed/memory.c $(EMBED)
 
 $(EMBED)/libr2u2.a:
 	$(MAKE) embed
@@ -95,7 +95,7 @@ check-symbols: | $(TRIES)
 
 # What flies keeps the required rules of MISRA C:2012, where there is cppcheck.
 check-misra:
-	embed/misra embed/arena.c embed/memory.c embed/heap.c embed/r2u2_checked.h embed/r2u2_text.h
+	embed/misra embed/arena.c embed/memory.c embed/heap.c embed/r2u2_checked.h embed/r2u2_kept.h embed/r2u2_text.h
 
 check-misuse: | $(TRIES)
 	$(TARGET_CC) $(WARNED) -O1 $(STRICT) -o $(TRIES)/misuse embed/misuse.c $(EMBED)/libr2u2.a -lpthread
@@ -215,7 +215,7 @@ check-python: python | $(TRIES)
 
 INSTALLED_LIBRARIES = libr2u2.a libr2u2_heap.a
 MANUALS = r2u2 r2u2_arena r2u2_wrappers
-INSTALLED_HEADERS = include/r2u2.h include/r2u2_alloc.h embed/r2u2_checked.h embed/r2u2_text.h
+INSTALLED_HEADERS = include/r2u2.h include/r2u2_alloc.h embed/r2u2_checked.h embed/r2u2_kept.h embed/r2u2_text.h
 INSTALLED_SOURCES = embed/arena.c embed/arena.h embed/memory.c embed/constant embed/cpp/r2u2.hpp embed/python/r2u2.py examples/embed/grants.c
 
 install: install-embed

@@ -9,6 +9,7 @@
 #include "faulty.h"
 #include "r2u2_alloc.h"
 #include "r2u2_checked.h"
+#include "r2u2_kept.h"
 #include "r2u2_text.h"
 
 /* The heap, which counts, and refuses the block that it is asked to refuse. */
@@ -71,11 +72,12 @@ static void check(bool holds, const char *claim, int line) {
 
 static struct image grant;
 static const char HEADER[] = "# request,grant";
-/* Of the first example: the delay of its output, and the most steps of a row, four for each slot of an instruction and of
- * its larger operand and for two more: the queues of its seven instructions have 4, 1, 1, 4, 4, 4 and 4 slots. */
-enum { GRANT_DELAY = 3, GRANT_STEPS = 4 * (6 + 3 + 3 + 7 + 10 + 10 + 10) };
-/* Its best delay is that of the request, 0 rows, so one row brings at most four reports. */
-enum { GRANT_REPORTS = 4 };
+/* Of the first example: the delay of its output, and the most reports of a row: its best delay is that of the request, 0 rows. */
+enum { GRANT_DELAY = 3, GRANT_REPORTS = 4 };
+/* The most steps of a row: four for each slot of an instruction of future time and of its larger operand and for two more, where
+ * the queues of the seven instructions have 4, 1, 1, 4, 4, 4 and 4 slots; two for each of the two of the Booleanizer, for the
+ * output and for each report; one for each of two columns; and three. */
+enum { GRANT_STEPS = 4 * (6 + 3 + 3 + 7 + 10 + 10 + 10) + 2 * (2 + 1 + GRANT_REPORTS) + 2 + 3 };
 static const int64_t ROWS[6][2] = {{1, 0}, {0, 1}, {1, 0}, {0, 0}, {0, 0}, {0, 0}};
 
 static uint32_t open_grant(struct r2u2 *it) {
@@ -129,6 +131,25 @@ static void calls_of_a_closed_one(void) {
     closed_ones_answer(&it);
     r2u2_close(&it);
     CHECK(it.at == NULL && held == 0);
+    r2u2_close(NULL);
+}
+
+/* What the queries by number return can be kept, as much as there is room for. */
+static void kept_copies(void) {
+    struct r2u2 it = {0};
+    struct r2u2_fault fault = {0};
+    struct r2u2_kept_output outputs[2] = {{{1}, 2, 3}, {{1}, 2, 3}};
+    struct r2u2_kept_signal signals[2] = {{{1}, 2, 3}, {{1}, 2, 3}};
+    CHECK(r2u2_keep_outputs(&it, outputs, 2) == 0 && r2u2_keep_signals(&it, signals, 2) == 0 && outputs[0].delay == 2);
+    CHECK(r2u2_open_under(&it, grant.bytes, grant.count, "#grant,other,request", 20, &fault) == R2U2_DONE);
+    CHECK(r2u2_keep_outputs(&it, outputs, 0) == 1 && r2u2_keep_signals(&it, signals, 0) == 2 && signals[0].kind == 3);
+    CHECK(r2u2_keep_outputs(&it, outputs, 2) == 1 && r2u2_keep_signals(&it, signals, 1) == 2);
+    CHECK(strcmp(outputs[0].name, "granted") == 0 && outputs[0].delay == GRANT_DELAY && outputs[0].kind == R2U2_FORMULA);
+    CHECK(strcmp(signals[0].name, "request") == 0 && signals[0].column == 2 && signals[0].kind == R2U2_TRUTH);
+    CHECK(outputs[1].delay == 2 && signals[1].column == 2 && signals[1].name[0] == 1);
+    CHECK(r2u2_keep_signals(&it, signals, 2) == 2 && strcmp(signals[1].name, "grant") == 0 && signals[1].column == 0);
+    r2u2_close(&it);
+    CHECK(held == 0);
 }
 
 static void opened_twice(void) {
@@ -232,7 +253,7 @@ static void queries(void) {
     CHECK(r2u2_signal(&it, 1, &column, &kind, name, 9) == 5 && memcmp(name, "grant\0t.", 9) == 0);
     CHECK(column == 0 && kind == R2U2_TRUTH);
     CHECK(r2u2_delay(&it, 0) == GRANT_DELAY && r2u2_delay(&it, 1) == 0 && r2u2_delay(&it, UINT32_MAX) == 0);
-    CHECK(r2u2_steps(&it) == GRANT_STEPS && r2u2_most_reports(&it) == GRANT_REPORTS);
+    CHECK(r2u2_steps(&it) == GRANT_STEPS + 1 && r2u2_most_reports(&it) == GRANT_REPORTS); /* one column more */
     CHECK(r2u2_output_kind(&it, 0) == R2U2_FORMULA && r2u2_output_kind(&it, 1) == 0);
     CHECK(r2u2_rows(&it) == 0 && take(&it, (int64_t[]){1, 9, 0}, 3) == R2U2_DONE && r2u2_rows(&it) == 1);
     CHECK(asked == before);
@@ -516,6 +537,7 @@ int main(int count, char **words) {
     grant.count = file ? fread(grant.bytes, 1, sizeof grant.bytes, file) : 0;
     if (!file || fclose(file)) return fprintf(stderr, "usage: misuse examples/embed/grant.bin\n"), 1;
     calls_of_a_closed_one();
+    kept_copies();
     opened_twice();
     rows_that_dont_fit();
     reports_left();

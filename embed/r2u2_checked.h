@@ -20,9 +20,6 @@
 /* The code of a call that wasn't made. */
 #define R2U2_BAD_ARGUMENT 100u
 
-/* Bytes that hold each name with its zero byte. */
-#define R2U2_NAME_BYTES 65u
-
 /* Where bytes begin and how many they are; none at a null pointer. */
 struct r2u2_span {
     const uint8_t *at;

@@ -152,8 +152,8 @@ uint32_t r2u2_open_checked(struct r2u2 *it, const uint8_t *program, size_t count
 
 /* Returns in `bytes` how many bytes a monitor of this program holds from its opening on, in all its blocks together: the sum
  * of the sizes that it allocated. An allocator adds bytes to each of at most R2U2_BLOCKS blocks; arena.c adds 16 to a
- * block, and what makes its size a multiple of 8. Opening holds other blocks for a while, and so does this call; arena.h
- * says how many bytes were enough. Each column that a header has beyond those of the program takes 17 bytes more.
+ * block, and what makes its size a multiple of 8. Opening holds other blocks for a while, and so does this call;
+ * r2u2_open_bytes of arena.h returns how many bytes suffice. Each column that a header has beyond those of the program takes 17 bytes more.
  *
  * R2U2_DONE: `bytes` has it. R2U2_REFUSED: `fault` has the first fault of the program. R2U2_NO_MEMORY. */
 uint32_t r2u2_bytes(const uint8_t *program, size_t count, uint64_t *bytes, struct r2u2_fault *fault);
@@ -169,7 +169,8 @@ uint32_t r2u2_outputs(const struct r2u2 *it);
 uint32_t r2u2_signals(const struct r2u2 *it);
 uint64_t r2u2_rows(const struct r2u2 *it);
 
-/* Returns the most steps of one row, which are reads and writes of queues and boxes. */
+/* Returns the most steps of one row, from r2u2_row to the call that returns its last report: for each instruction of the three
+ * parts, with the reads and writes of queues and boxes, each column, each output and each report. The program determines it. */
 uint64_t r2u2_steps(const struct r2u2 *it);
 
 /* The most reports that one row brings, of all outputs together: between two rows r2u2_next gives no more, in either style.
@@ -177,7 +178,11 @@ uint64_t r2u2_steps(const struct r2u2 *it);
 uint64_t r2u2_most_reports(const struct r2u2 *it);
 
 /* The calls from here to r2u2_signal change nothing, but they write to the struct while they run: it isn't const, and no
- * other call uses it meanwhile. Make them once, after opening, and keep their results. */
+ * other call uses it meanwhile. Make them once, after opening, and keep their results: r2u2_kept.h does that for all outputs
+ * and signals, in an array of yours, which any number of tasks may read. */
+
+/* Bytes that hold each name with its zero byte. */
+#define R2U2_NAME_BYTES 65u
 
 /* Writes the name of output `k`, counted from 0, to the start of `buffer`, and a zero byte after it where it fits, and
  * returns the name's length, 1 to 64; the rest of the buffer stays. Returns 0, and writes nothing, where none is open, there
@@ -232,8 +237,15 @@ uint32_t r2u2_next_many(struct r2u2 *it, uint32_t style, struct r2u2_report *rep
  * R2U2_DONE. R2U2_NOT_OPEN. */
 uint32_t r2u2_reset(struct r2u2 *it);
 
-/* Frees the monitor, if one is open. The struct is all zero again. */
-void r2u2_close(struct r2u2 *it);
+/* Frees the monitor, if one is open. The struct is all zero again. `it` isn't null. */
+void r2u2_close_struct(struct r2u2 *it);
+
+/* The same; at a null pointer it does nothing. */
+static inline void r2u2_close(struct r2u2 *it) {
+    if (it != NULL) {
+        r2u2_close_struct(it);
+    }
+}
 
 #ifdef __cplusplus
 }

@@ -159,7 +159,7 @@ def _loaded(path: str) -> Any:
         "next": (number, [it, number, ctypes.POINTER(_Report)]),
         "next_many": (number, [it, number, ctypes.POINTER(_Report), size, ctypes.POINTER(size)]),
         "reset": (number, [it]),
-        "close": (None, [it]),
+        "close_struct": (None, [it]),
     }
     for name, (result, arguments) in calls.items():
         call = getattr(library, f"r2u2_{name}")
@@ -267,7 +267,7 @@ class Monitor:
 
     def close(self) -> None:
         """Closes the monitor, and frees its memory."""
-        self._call.r2u2_close(self._it)
+        self._call.r2u2_close_struct(self._it)
 
     def __enter__(self) -> "Monitor":
         return self

@@ -12,6 +12,8 @@ ROOT = Path(__file__).resolve().parent.parent.parent
 TOOLS = ROOT / "tools"
 DEV = ROOT / "dev"
 sys.path.insert(0, str(TOOLS / "lib"))
+# How many seconds a test waits for what comes within one or two where no other work runs beside.
+PATIENCE = 150
 # Whether dev/coverage measures: tools take several times longer then.
 MEASURED = "COVERAGE_PROCESS_START" in os.environ
 

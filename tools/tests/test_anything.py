@@ -5,7 +5,7 @@ import signal
 import subprocess
 import sys
 
-from support import ROOT, TOOLS, Case, tool
+from support import PATIENCE, ROOT, TOOLS, Case, tool
 
 LINES = b"granted:0,T\ngranted:1,F\nagc:7,inactive\n"
 TELEMETRY = b'\xef\xbb\xbft,"volts",on\n0,1.5,true\n0.1,2,false\n'
@@ -99,6 +99,6 @@ class Anything(Case):
         child.stdin.write(b"".join(b"f:%d,T\n" % k for k in range(40000)))
         child.stdin.flush()
         child.send_signal(signal.SIGINT)
-        out, errors = child.communicate(timeout=60)
+        out, errors = child.communicate(timeout=PATIENCE)
         self.assertEqual((child.returncode, errors), (130, b""))
         self.assertRegex(out.decode(), r"^output +T +first F or invalid +decided\nf +[0-9]+ +- +to [0-9]+\n$")

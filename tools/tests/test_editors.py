@@ -6,7 +6,7 @@ import shutil
 import subprocess
 import unittest
 
-from support import ROOT, TOOLS, Case, shell, tool
+from support import PATIENCE, ROOT, TOOLS, Case, shell, tool
 from r2u2tools.common.specs import tokens
 
 COMPLETIONS = ROOT / "completions"
@@ -97,7 +97,7 @@ class Vim(Case):
         )
         words = [needs("vim"), "-Nu", "NONE", "-i", "NONE", "-n", "-es", "-c", f"set runtimepath^={EDITORS}/vim"]
         words += ["-c", "filetype on", "-c", "syntax on", "-c", f"edit {path}", "-c", f"source {script}"]
-        subprocess.run(words, stdin=subprocess.DEVNULL, timeout=20)
+        subprocess.run(words, stdin=subprocess.DEVNULL, timeout=PATIENCE)
         if not out.exists():
             raise unittest.SkipTest("this vim has no syntax")
         return dict((int(line.partition(" ")[0]), line.partition(" ")[2]) for line in out.read_text().splitlines())

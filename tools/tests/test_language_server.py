@@ -3,12 +3,13 @@
 import json
 import os
 import shutil
+import signal
 import subprocess
 import sys
 import unittest
 import zipfile
 
-from support import DEV, ROOT, TOOLS, Case, program, shell
+from support import DEV, PATIENCE, ROOT, TOOLS, Case, program, shell
 from r2u2tools.check.server import place_of, units
 
 TEXT = """-- ein Kommentar: größer \N{GRINNING FACE}
@@ -33,9 +34,9 @@ URI = "file:///tmp/spec.c2po"
 class Editor:
     """The other side of the protocol."""
 
-    def __init__(self, **env):
+    def __init__(self, errors=None, **env):
         words = [sys.executable, str(TOOLS / "check"), "--server"]
-        self.child = subprocess.Popen(words, stdin=subprocess.PIPE, stdout=subprocess.PIPE, env={**os.environ, **env})
+        self.child = subprocess.Popen(words, stdin=subprocess.PIPE, stdout=subprocess.PIPE, stderr=errors, env={**os.environ, **env})
         self.number, self.told = 0, []
 
     def send(self, message):
@@ -73,12 +74,12 @@ class Editor:
     def end(self):
         self.ask("shutdown")
         self.tell("exit")
-        return self.child.wait(20)
+        return self.child.wait(PATIENCE)
 
     def close(self):
         self.child.terminate()
         try:
-            self.child.wait(60)
+            self.child.wait(PATIENCE)
         except subprocess.TimeoutExpired:
             self.child.kill()
             self.child.wait()
@@ -232,8 +233,21 @@ class Server(Case):
 class Ends(Case):
     def test_without_shutdown(self):
         for raw in (b"", b"Content-Length: 9999999999\r\n\r\n", b"nonsense\r\n\r\n", b"Content-Length: 5\r\n\r\n{"):
-            ran = subprocess.run([sys.executable, str(TOOLS / "check"), "--server"], input=raw, capture_output=True, timeout=60)
+            ran = subprocess.run([sys.executable, str(TOOLS / "check"), "--server"], input=raw, capture_output=True, timeout=PATIENCE)
             self.assertEqual((ran.returncode, ran.stdout, ran.stderr), (1, b"", b""))
+
+    def test_a_signal_while_it_waits(self):
+        """It ends with the status of the signal, and says nothing."""
+        for number in (signal.SIGTERM, signal.SIGINT, signal.SIGHUP):
+            editor = Editor(errors=subprocess.PIPE)
+            self.addCleanup(editor.close)
+            self.addCleanup(editor.child.stderr.close)
+            editor.ask("initialize")
+            editor.child.send_signal(number)
+            self.assertEqual((editor.child.wait(PATIENCE), editor.child.stderr.read()), (128 + number, b""))
+
+    def test_a_closed_input(self):
+        self.assertEqual(shell('"$TOOLS/check" --server <&-'), (1, "", ""))
 
     def test_a_request_before_the_first(self):
         editor = Editor()
@@ -348,7 +362,7 @@ class Editors(Case):
         self.file("node_modules/vscode/index.js", NODE_EDITOR)
         shutil.copy(ROOT / "editors/vscode/extension.js", self.folder)
         script = self.file("ask.js", NODE_ASKS.replace("SPEC", str(self.spec)))
-        ran = subprocess.run(["node", str(script)], capture_output=True, encoding="utf-8", timeout=60, env={**os.environ, "PATH": self.path})
+        ran = subprocess.run(["node", str(script)], capture_output=True, encoding="utf-8", timeout=PATIENCE, env={**os.environ, "PATH": self.path})
         self.assertEqual(ran.stderr, "")
         found = json.loads(ran.stdout)
         self.assertEqual(found["faults"][0][0], [4, 10, 4, 13])

@@ -10,7 +10,7 @@ import subprocess
 import sys
 
 import chromium
-from support import ROOT, TOOLS, Case, program, tool
+from support import PATIENCE, ROOT, TOOLS, Case, program, tool
 from r2u2tools.common.cli import Trouble
 from r2u2tools.play import runs
 from r2u2tools.play.examples import examples
@@ -40,11 +40,11 @@ class Served(Case):
     def end(self):
         if self.child.poll() is None:
             self.child.send_signal(signal.SIGTERM)
-        self.child.communicate(timeout=30)
+        self.child.communicate(timeout=PATIENCE)
 
     def request(self, method, path, body=None, **heads):
         """The status, the body and the headers of a response."""
-        line = http.client.HTTPConnection("127.0.0.1", self.port, timeout=60)
+        line = http.client.HTTPConnection("127.0.0.1", self.port, timeout=PATIENCE)
         heads = {key.replace("_", "-"): value for key, value in heads.items()}
         line.request(method, path, body, {"Content-Type": "application/json", **heads} if method == "POST" else heads)
         found = line.getresponse()
@@ -131,7 +131,7 @@ class Server(Served):
 
     def test_it_ends(self):
         self.child.send_signal(signal.SIGINT)
-        out, errors = self.child.communicate(timeout=30)
+        out, errors = self.child.communicate(timeout=PATIENCE)
         self.assertEqual((self.child.returncode, errors), (0, ""))
 
     def test_a_taken_port(self):

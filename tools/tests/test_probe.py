@@ -37,8 +37,21 @@ class Mutants(Case):
         told = {(kind, old, new) for kind, old, new, _ in changes}
         self.assertEqual(told, {
             ("count", "1", "0"), ("count", "1", "2"), ("constant", "x < 5", "x < 4"), ("constant", "x < 5", "x < 6"),
-            ("operator", "&&", "||"), ("operator", "<", "<="), ("operator", "->", "<->"), ("operator", "!", "nothing"),
+            ("operator", "&&", "||"), ("operator", "x < 5", "x <= 5"), ("operator", "->", "<->"), ("operator", "!", "nothing"),
         })
+
+    def test_a_comparison_is_shown_whole(self):
+        text = (
+            "STRUCT S: { a: int; on: bool; };\nINPUT x, y: int;\nDEFINE s := S(x, y > 2 * x + 3);\n"
+            "FTSPEC f: s.a + 2 < y * -4 && (x-7) == 0 && s.on && F[0,1] (x != 1);\n"
+        )
+        told = {(kind, old, new) for kind, old, new, _ in self.changes(text)}
+        for one in (
+            ("constant", "s.a + 2 < y * -4", "s.a + 1 < y * -4"), ("constant", "s.a + 2 < y * -4", "s.a + 2 < y * -5"),
+            ("operator", "s.a + 2 < y * -4", "s.a + 2 <= y * -4"), ("constant", "(x-7) == 0", "(x-8) == 0"),
+            ("constant", "y > 2 * x + 3", "y > 2 * x + 4"), ("bound", "F[0,1]", "F[0,2]"), ("operator", "x != 1", "x == 1"),
+        ):
+            self.assertIn(one, told)
 
     def test_definitions_are_changed_for_one_requirement(self):
         text = "INPUT x: int;\nDEFINE limit := 5; high := x > limit;\nFTSPEC f: high;\n"
@@ -82,6 +95,20 @@ class Probe(Case):
         self.assertEqual([it["text"] for it in found["spare"]["unused"]], ["alt > 3000", "alt <= 3000"])
         self.assertEqual([it["holds"] for it in found["gear_down"]["margins"] if it["text"] == "F[0,3]"], [1])
         self.assertIs(found["aborted"]["tried"], False)
+
+    def test_parts_of_structs_that_a_requirement_does_not_read(self):
+        """Changes there aren't changes of the requirement: neither counted, nor told as unnoticed or unused."""
+        spec = self.file("structs.c2po", (
+            "STRUCT Heater: { hot: bool; cold: bool; };\nINPUT t, u: int;\nDEFINE icy := u < 5; one := Heater(t > 90, icy);\n"
+            "  both := {one, Heater(u > 80, t < 6)};\nFTSPEC f: !one.hot; g: foreach(h: both)(!h.cold); whole: !one.hot && !one.cold;\n"
+        ))
+        rows = self.file("heat.csv", "# t,u\n20,20\n90,20\n91,20\n20,4\n")
+        found = self.probed(spec, rows)
+        self.assertEqual((found["f"]["mutants"], found["g"]["mutants"]), (2 + 1, 4 + 1 + 1))
+        told = {it["old"] for name in "fg" for it in found[name]["unnoticed"]}
+        self.assertFalse(told & {"u > 80"} or {it["old"] for it in found["f"]["unnoticed"]} & {"u < 5", "t < 6"}, told)
+        self.assertEqual([it["text"] for it in found["f"]["unused"]], [])
+        self.assertIn("u < 5", {it["old"] for it in found["whole"]["unnoticed"]})
 
     def test_margins_are_those_of_r2u2(self):
         """With the last value that holds no verdict is false; with the first one that doesn't, one is."""

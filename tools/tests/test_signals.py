@@ -7,7 +7,7 @@ import sys
 import time
 from pathlib import Path
 
-from support import TOOLS, Case, shell
+from support import PATIENCE, TOOLS, Case, shell
 
 NAMES = sorted(path.name for path in TOOLS.iterdir() if path.is_file())
 SLOW = """#!/bin/sh
@@ -60,10 +60,10 @@ class Ended(Case):
     def ends(self, child, number, pid=None):
         """A signal to the tool alone ends it and its program, and no file stays."""
         child.send_signal(number)
-        out, errors = child.communicate(timeout=30)
+        out, errors = child.communicate(timeout=PATIENCE)
         self.assertNotIn(b"Traceback", errors)
         self.assertEqual(child.returncode, 128 + number, errors)
-        for _ in range(30):
+        for _ in range(300):
             if pid is None or not alive(pid):
                 break
             time.sleep(0.1)
@@ -116,7 +116,7 @@ class Ended(Case):
         child.stdin.flush()
         self.assertEqual(child.stdout.readline(), b"# a\n")
         child.send_signal(signal.SIGHUP)
-        self.assertEqual(child.communicate(timeout=30)[0], b"1\n")
+        self.assertEqual(child.communicate(timeout=PATIENCE)[0], b"1\n")
         self.assertEqual(child.returncode, 0)
 
 

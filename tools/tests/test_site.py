@@ -16,7 +16,7 @@ from urllib.parse import unquote
 from support import DEV
 
 BROWSERS = ("chromium", "chromium-browser", "google-chrome")
-SECONDS = 60
+SECONDS = 150
 
 
 class Browser:

@@ -5,6 +5,7 @@ import pty
 import re
 import subprocess
 import sys
+import time
 import xml.etree.ElementTree as ElementTree
 
 import chromium
@@ -29,6 +30,8 @@ tick:5,T
 """
 GRANT = ["--spec", ROOT / "examples/grant.c2po", "--trace", ROOT / "examples/grant.csv", "--ticks", "tick"]
 SVG = "{http://www.w3.org/2000/svg}"
+# How many seconds the work of Large.slower takes on an idle processor of 2.5 GHz.
+IDLE = 0.13
 
 
 class Pictures(Case):
@@ -105,6 +108,9 @@ class Squares(Pictures):
         texts = self.texts("--trace", trace, "--ticks", "tick", give="tick:0,T\ntick:1,T\np:1,T\ntick:2,T\ntick:3,T\n")
         self.assertIn("time", texts)
         self.assertIn("printed with this time", texts)
+        self.assertEqual(tool("timeline", "--html", "--ticks", "tick", give="f:5,T\ntick:0,T\n"), (
+            2, "", "timeline: f has a line before the row of its time: the output of --ticks hasn't a line with every row\n",
+        ))
         model = Model()
         take_trace(model, trace, None, True)
         with self.file("lines", "tick:0,T\np:0,T\np:1,T\ntick:1,T\np:4,F\ntick:4,T\n").open("rb") as lines:
@@ -447,13 +453,22 @@ class Large(Case):
             file.writelines(f"f:{k},{'TTF'[k % 3]}\ntick:{k},T\n" if k % 4 else f"tick:{k},T\n" for k in range(1000000))
         script = "import resource, subprocess, sys; subprocess.run(sys.argv[1:], check=True); u = resource.getrusage(resource.RUSAGE_CHILDREN); print(u.ru_maxrss, u.ru_utime)"
         words = [sys.executable, TOOLS / "timeline", "--html", "--trace", trace, "--ticks", "tick", "-o", self.folder / "page.html", lines]
+        slower = self.slower()
         ran = subprocess.run([sys.executable, "-c", script, *map(str, words)], stdout=subprocess.PIPE, encoding="utf-8", check=True)
         kilobytes, seconds = map(float, ran.stdout.split())
-        print(f"{seconds:.1f} s, {kilobytes / 1024:.0f} MB ... ", end="", flush=True)
+        slower = max(1, slower, self.slower())
+        print(f"{seconds:.1f} s, {kilobytes / 1024:.0f} MB, here {slower:.1f} times as slow ... ", end="", flush=True)
         self.assertLess(kilobytes, 200 * 1024)
-        if seconds >= 10 and os.getloadavg()[0] > os.cpu_count():
-            self.skipTest(f"{seconds:.1f} s, which says little: {os.getloadavg()[0]:.0f} processes want {os.cpu_count()} processors")
-        self.assertLess(seconds, 10)
+        self.assertLess(seconds, 10 * slower)
+
+    def slower(self):
+        """How many times longer such work takes here and now than on an idle processor of 2.5 GHz."""
+        before = time.process_time()
+        cells = ("4711,0,1\n" * 200000).replace("\n", ",").split(",")
+        sum(map(int, cells[:-1]))
+        for place, cell in enumerate(cells):
+            cells[place] = cell
+        return (time.process_time() - before) / IDLE
 
     def test_progress_on_a_terminal(self):
         head, tail = pty.openpty()

@@ -1,13 +1,16 @@
 """The reading of traces as runs."""
 
+import io
 import random
 import time
+from unittest import mock
 
 from support import Case
 
 from r2u2tools.common import traces
 from r2u2tools.common.specs import Signal
 from r2u2tools.common.cli import Trouble
+from r2u2tools.common.verdict_lines import Reader
 
 
 def runs(trace):
@@ -60,6 +63,35 @@ class Traces(Case):
                 told = [(time, value) for begin, end, value in column.between(first, last) for time in range(begin, end + 1)]
                 self.assertEqual(told, list(enumerate(fields))[first : last + 1])
 
+    def test_lines_that_are_alike_as_one_by_one(self):
+        """Rows at random, some stamped, with blanks, empty lines and faults, in pieces of any size."""
+        def outcome(rows, size):
+            file = io.BytesIO(rows)
+            file.read1 = lambda _: io.BytesIO.read(file, size)
+            try:
+                trace = traces.filled(file, None, None)
+            except Trouble as trouble:
+                return str(trouble)
+            return runs(trace), trace.times, trace.stamps
+
+        dice, said = random.Random(0), set()
+        for _ in range(300):
+            rows, time = [b"# a,b"] * dice.randint(0, 1), -1
+            fields = dice.choice([["0", "1"], ["0", "1", " 1"], ["7", "\u00b5", "\udcff"], ["", "0"]])
+            stamped, end = dice.choice([0, 0, 1, 0.5]), dice.choice([b"\n", b"\r\n"])
+            for _ in range(dice.randint(0, 60)):
+                time += dice.choice([1, 1, 5])
+                stamp = f"@{time}," if dice.random() < stamped else ""
+                rows.append((stamp + ",".join(dice.choice(fields) for _ in range(2))).encode("utf-8", "surrogateescape"))
+                if dice.random() < 0.01:
+                    rows.append(dice.choice([b"", b" \t", b"1", b"1,0,1", b"@x,1,0", b"@0,1,0", b"@ 9,1,0", b" @9,1", b"@" + b"9" * 5000 + b",1,0"]))
+            text, size = end.join(rows) + end, dice.choice([5, 100, 1 << 16])
+            found = outcome(text, size)
+            with mock.patch.object(traces.Filler, "take_alike", return_value=False):
+                self.assertEqual(outcome(text, size), found, text)
+            said.add(found if isinstance(found, str) else "")
+        self.assertGreater(len(said), 5)
+
     def test_faults(self):
         for text, said in [("# a,b\n1\n", "line 2: too few"), ("@0,1\n@0,1\n", "line 2: times"), ("@x,1\n", "line 1: bad time")]:
             with self.assertRaises(Trouble) as caught:
@@ -75,3 +107,40 @@ class Traces(Case):
         trace = traces.read_trace(path)
         self.assertLess(time.process_time() - before, 20)
         self.assertEqual((trace.times, len(trace.columns[0]), len(trace.columns[1])), (1000000, 1000000, 1))
+
+
+class VerdictLines(Case):
+    def outcome(self, text, read):
+        """What lines tell of each output, or what is wrong with them."""
+        found = {}
+        try:
+            for name, times, words in read(Reader("x"), io.BytesIO(text)):
+                found.setdefault(name, []).extend(zip(times, words))
+        except Trouble as trouble:
+            return str(trouble)
+        return list(found.items())
+
+    def test_blocks_tell_the_same_as_lines(self):
+        """Of lines at random, some of them with a fault."""
+        def by_line(reader, file):
+            return ((name, [last], [word]) for name, _, last, word in reader.stretches(file))
+
+        def by_block(reader, file):
+            return ((name, part.times, part.words) for parts in reader.parts(file) for name, part in parts.items())
+
+        faults = ["", "a,b:c", ":1,T", "a:,T", "a:1,X", "a:0,T", "a: 1,T", "a:1_0,T", "a:+9,T", "z:" + "0" * 13 + "1,T", "x" * 65 + ":1,T", "x" * 200]
+        dice, said = random.Random(0), set()
+        for _ in range(300):
+            next_of, lines = dict.fromkeys("abc", 0), []
+            for _ in range(dice.randint(0, 60)):
+                name = dice.choice("abc")
+                time = next_of[name] + dice.choice([0, 0, 3])
+                next_of[name] = time + 1
+                lines.append(f"{name}:{time},{dice.choice(['T', 'F', 'inactive', 'invalid', 'verified'])}{dice.choice(['', '', chr(13)])}")
+            if dice.random() < 0.4:
+                lines.insert(dice.randint(0, len(lines)), dice.choice(faults))
+            text = "\n".join(lines).encode() + b"\n" * (bool(lines) and dice.randint(0, 1))
+            found = self.outcome(text, by_block)
+            self.assertEqual(found, self.outcome(text, by_line), text)
+            said.add(found if isinstance(found, str) else "")
+        self.assertGreater(len(said), 10)

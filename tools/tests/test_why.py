@@ -286,6 +286,38 @@ class Sentences(Case):
         self.assertIn("vz >= -100 is false at row", lines)
         self.assertIn("  G[0,2] (low -> vz >= -100 || gear) is false at time 0", lines)
 
+    def test_the_words_of_the_author_within_quantifiers(self):
+        """A comparison with a member keeps its sides and its denials, whatever a set or a struct holds."""
+        text = (
+            "STRUCT Heater: { on: bool; temp: int; };\nINPUT a: bool; alt, t: int;\n"
+            "DEFINE first := Heater(a, t); second := Heater(3 < t, t + 1); heaters := {first, second}; limits := {10, 0 - 3};\n"
+            "FTSPEC below: foreach(m: {1, 2})(m < alt); least: foratleast(m: {1, 2}, 1)(!(m >= alt));\n"
+            "  warm: foreach(h: heaters)(h.on -> 5 < h.temp); some: forsome(m: limits)(m <= t - m);\n"
+            "  two: foreach(m: {1, -2})(foreach(n: {m, 7})(n < alt-m)); on: foreach(h: {first, Heater(7 > t, 2)})(h.on);\n"
+        )
+        for verdict, told in (
+            ("below", "F at 0: 1 < alt is false at row 0 (1)"),
+            ("least", "F at 0: !(2 >= alt) is false at row 0 (1); !(1 >= alt) is false at row 0 (1)"),
+            ("warm", "F at 0: 3 < t at row 0 (4); 5 < second.temp is false at row 0 (t is 4)"),
+            ("some", "T at 0: (0 - 3) <= t - (0 - 3) at row 0 (t is 4)"),
+            ("two", "F at 0: 1 < alt-1 is false at row 0 (alt is 1)"),
+            ("on", "T at 0: a holds at row 0; 7 > t at row 0 (4)"),
+        ):
+            self.assertEqual(self.over(text, "1,1,4\n", f"{verdict}:0")[0], f"{verdict} is {told}")
+        self.assertIn("-2 < alt-(-2) at row 0", "\n".join(self.over(text, "1,9,4\n", "two:0")))
+
+    def test_a_field_of_a_struct_made_in_place(self):
+        """A picked field of a member that is made in the set is what it is made with."""
+        text = (
+            "STRUCT Heater: { on, off: bool; temp: int; };\nINPUT a, b: bool; t, u: int;\n"
+            "FTSPEC cold: foreach(h: {Heater(a, b, t), Heater(b, a, (t + u) * 2)})(h.on && !h.off -> h.temp < 9);\n"
+        )
+        for rows, told in (
+            ("1,0,9,0\n", "a holds at row 0; b is false at row 0; t < 9 is false at row 0 (9)"),
+            ("0,1,4,1\n", "b holds at row 0; a is false at row 0; ((t + u) * 2) < 9 is false at row 0 (t is 4; u is 1)"),
+        ):
+            self.assertEqual(self.over(text, rows, "cold:0")[0], f"cold is F at 0: {told}")
+
     def test_ranges_of_values(self):
         text = "INPUT x: int;\nFTSPEC f: G[0,9] (x > 3);\n"
         rows = "".join(f"{4 + k % 7}\n" for k in range(12))

@@ -112,7 +112,7 @@ extern "C" {
     fn r2u2_row(it: *mut Struct, numbers: *const i64, count: usize, fault: *mut RawRowFault) -> u32;
     fn r2u2_next(it: *mut Struct, style: u32, report: *mut RawReport) -> u32;
     fn r2u2_reset(it: *mut Struct) -> u32;
-    fn r2u2_close(it: *mut Struct);
+    fn r2u2_close_struct(it: *mut Struct);
 }
 
 /// A text of at most 96 bytes: a name or a message.
@@ -354,7 +354,7 @@ impl Monitor {
         unsafe { r2u2_delay(&raw mut self.it, output) }
     }
 
-    /// Returns the most steps of one row.
+    /// Returns the most steps of one row, from taking it to its last report.
     #[must_use]
     pub fn steps(&self) -> u64 {
         // SAFETY: as above.
@@ -433,7 +433,7 @@ unsafe impl Send for Monitor {}
 impl Drop for Monitor {
     fn drop(&mut self) {
         // SAFETY: the struct is that of an open monitor, or all zero.
-        unsafe { r2u2_close(&raw mut self.it) }
+        unsafe { r2u2_close_struct(&raw mut self.it) }
     }
 }
 

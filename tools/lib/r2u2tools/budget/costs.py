@@ -39,6 +39,7 @@ class Costs:
 
     def __init__(self, made: Compiled, folder: Union[str, Path]) -> None:
         self.made, self.shown = made, made.shown
+        self.width = int.from_bytes(made.flown()[8:12], "little")
         lines = list(csv.DictReader(io.StringIO(table_of(made, folder))))
         self.all = {(line["engine"], int(line["number"])): instruction(line) for line in lines}
         self.refs = refs_of(self.all, self.shown, made.columns())
@@ -85,7 +86,7 @@ class Costs:
         """The most steps of an instruction in one row, as `row_work` states them over its size and those of its operands."""
         if it.part == "ft":
             return 4 * (max([self.all[place].size for place in it.reads if place[0] == "ft"], default=0) + it.size + 2)
-        return it.size + 2 if it.part == "pt" else 0
+        return it.size + 2 if it.part == "pt" else 2
 
     def ref(self, place: Place) -> str:
         """How the text of the program calls a formula; a conjunction of which only the denial is read, as that."""

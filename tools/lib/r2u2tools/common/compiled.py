@@ -4,6 +4,7 @@ from __future__ import annotations
 
 import re
 from dataclasses import dataclass
+from itertools import chain, islice
 from pathlib import Path
 from typing import Iterator, Optional, Union
 
@@ -162,10 +163,11 @@ def quote(made: Compiled, told: Requirement, folder: FilePath) -> None:
 def written_formulas(given: Spec, body: list[Token]) -> list[str]:
     """The formulas that a requirement consists of, and those of the definitions that it reads, as they are written."""
     by_name = {item.name: item for item in given.items if item.section == "DEFINE"}
-    left, seen, found = sides_of(body), set(), list[str]()
+    left, read_all, seen, found = sides_of(body), list[list[Token]](), set(), list[str]()
     size = 0
     while left and len(found) < MOST_QUOTED and size < MOST_TOKENS:
         read = left.pop(0)
+        read_all.append(read)
         for first, last in formulas_in(read):
             found.append(plain(given.text, read[first:last]))
             size += last - first
@@ -173,7 +175,92 @@ def written_formulas(given: Spec, body: list[Token]) -> list[str]:
             if item.name not in seen:
                 seen.add(item.name)
                 left.append(item.body)
-    return list(dict.fromkeys(found))[:MOST_QUOTED]
+    fields = {item.name: fields_of(item.body) for item in given.items if item.section == "STRUCT" and item.name}
+    inner = (picked(formula, fields) for read in read_all for formula in inner_formulas(given.text, read, by_name))
+    return list(dict.fromkeys(chain(found, islice(inner, MOST_QUOTED))))[:MOST_QUOTED]
+
+
+def fields_of(body: list[Token]) -> list[str]:
+    """The names of a struct's fields, in order."""
+    names = list[str]()
+    for before, token, after in zip(body, body[1:], body[2:]):
+        if before.text in ("{", ";", ",") and after.text in (":", ","):
+            names.append(token.text)
+    return names
+
+
+def picked(formula: str, fields: dict[str, list[str]]) -> str:
+    """A formula in which a field that is picked of a struct made in place is what the struct is made with."""
+    for found in reversed(list(re.finditer(r"\b([A-Za-z_]\w*)\(", formula))):
+        names, pieces, end = fields.get(found[1], []), [""], found.end()
+        depth = 1
+        while depth and end < len(formula):
+            letter, end = formula[end], end + 1
+            depth += (letter in "({") - (letter in ")}")
+            if letter == "," and depth == 1:
+                pieces.append("")
+            elif depth:
+                pieces[-1] += letter
+        pick = re.compile(r"\s*\.\s*([A-Za-z_]\w*)").match(formula, end)
+        if pick and pick[1] in names and len(names) == len(pieces):
+            piece = pieces[names.index(pick[1])].strip()
+            piece = piece if re.fullmatch(r"\w+(\.\w+)*|-?\d+", piece) else f"({piece})"
+            formula = formula[: found.start()] + piece + formula[pick.end() :]
+    return formula
+
+
+def inner_formulas(text: str, read: list[Token], by_name: dict[Optional[str], Item]) -> Iterator[str]:
+    """The formulas within sets, structs and quantifiers; those of a quantifier with each member in the place of its name."""
+    tree = tree_of(read)
+    left: list[tuple[list[Token], Expression, dict[str, str], bool]] = [(read, tree, {}, False)] if tree else []
+    while left:
+        read, it, members, inside = left.pop()
+        mine = read[it.first : it.last] if members or inside or not it.parts else []
+        if it.op in TRUTHS and (inside or any(token.text in members for token in mine)):
+            yield with_members(text, mine, members)
+        pieces = [] if it.parts else arguments(mine)
+        if it.op in QUANTIFIERS:
+            head = read[it.sign[0] + 4 : it.sign[1]]
+            pieces, known = arguments(head), members
+            if not pieces and head[0].text in by_name:
+                pieces, known = arguments(by_name[head[0].text].body), {}
+            name = read[it.sign[0] + 2].text
+            left += [(read, it.parts[0], {**members, name: member(text, piece, known)}, inside) for piece in pieces]
+        else:
+            left += [(read, part, members, inside) for part in it.parts]
+        left += [(piece, tree, members, True) for piece in pieces if (tree := tree_of(piece))]
+
+
+def arguments(read: list[Token]) -> list[list[Token]]:
+    """What the commas part in the brackets with which a set or a struct begins; none where it begins otherwise."""
+    found, depth = list[list[Token]](), 0
+    for token in read if [it.text for it in read[:1]] == ["{"] or [it.text for it in read[1:2]] == ["("] else []:
+        depth -= token.text in (")", "}")
+        if token.text in ("(", "{") and depth == 0 or token.text == "," and depth == 1:
+            found.append([])
+        elif found and depth:
+            found[-1].append(token)
+        elif found:
+            break
+        depth += token.text in ("(", "{")
+    return found
+
+
+def member(text: str, read: list[Token], members: dict[str, str]) -> str:
+    """A member of a set as it can stand in the place of a name."""
+    tree, written = tree_of(read), with_members(text, read, members)
+    is_number = tree and tree.op == "-" and len(tree.parts) == 1 and not tree.parts[0].parts
+    return written if is_number or tree and tree.op in ("", "(") else f"({written})"
+
+
+def with_members(text: str, read: list[Token], members: dict[str, str]) -> str:
+    """Some tokens in one line, without comments, with members in the places of their names."""
+    found, before = "", ""
+    for k, token in enumerate(read):
+        word = members.get(token.text, token.text) if before != "." else token.text
+        found += " " * (k > 0 and read[k - 1].end < token.start) + (f"({word})" if before == "-" and word[0] == "-" else word)
+        before = token.text
+    return found
 
 
 def names_in(read: list[Token], by_name: dict[Optional[str], Item]) -> list[Item]:

@@ -16,19 +16,34 @@ class Readable(Protocol):
         """Up to so many bytes; none at the end."""
 
 
+def blocks_of(file: Readable, longest: int) -> Iterator[tuple[int, bytes]]:
+    """The lines of a file of bytes, as soon as they are there, many at a time: the number of the first, and all without the last newline."""
+    read = getattr(file, "read1", file.read)
+    rest, number = b"", 1
+    while block := read(BLOCK):
+        whole, newline, rest = (rest + block).rpartition(b"\n")
+        if newline:
+            yield number, whole
+            number += whole.count(b"\n") + 1
+        if len(rest) > longest:
+            raise too_long(number, longest)
+    if rest:
+        yield number, rest
+
+
 def lines_of(file: Readable, longest: int) -> Iterator[tuple[int, bytes]]:
     """The lines of a file of bytes, as soon as they are there, with their numbers; none is longer than `longest`."""
-    read = getattr(file, "read1", file.read)
-    rest, number = b"", 0
-    while block := read(BLOCK):
-        whole = (rest + block).split(b"\n")
-        rest = whole.pop()
-        for line in whole:
-            number += 1
-            if len(line) > longest:
-                raise Trouble(f"line {number}: longer than {longest} bytes")
-            yield number, line
-        if len(rest) > longest:
-            raise Trouble(f"line {number + 1}: longer than {longest} bytes")
-    if rest:
-        yield number + 1, rest
+    for first, block in blocks_of(file, longest):
+        yield from lines_in(block, first, longest)
+
+
+def lines_in(block: bytes, first: int, longest: int) -> Iterator[tuple[int, bytes]]:
+    """The lines of a block with their numbers."""
+    for number, line in enumerate(block.split(b"\n"), first):
+        if len(line) > longest:
+            raise too_long(number, longest)
+        yield number, line
+
+
+def too_long(number: int, longest: int) -> Trouble:
+    return Trouble(f"line {number}: longer than {longest} bytes")

@@ -7,18 +7,24 @@ same for long, and a gap of millions of stamps takes no time.
 from __future__ import annotations
 
 import csv
+import re
 from array import array
 from bisect import bisect_left
+from itertools import compress, islice, repeat
+from operator import lt, ne
 from pathlib import Path
 from typing import Any, Iterator, Optional, Sequence, Union
 
 from r2u2tools.common.cli import Trouble, opened
 from r2u2tools.common.specs import Signal
-from r2u2tools.common.streams import Readable, lines_of
+from r2u2tools.common.streams import Readable, blocks_of, lines_in, too_long
 
 LONGEST = 65536
 LATEST = 1 << 40
 MOST_KNOWN = 1 << 16
+BLANKS = " \t\r"
+DIGITS = re.compile("[0-9]{1,13}")
+NO_SEPARATORS = bytes(byte for byte in range(256) if byte not in b",\n")
 
 
 class Runs:
@@ -36,6 +42,19 @@ class Runs:
             self.lasts.append(last)
             self.values.append(value)
 
+    def extend(self, lasts: Sequence[int], values: Sequence[Any]) -> None:
+        """The same for many values, each up to the time that stands at its place, in as few calls as for one."""
+        if not values:
+            return
+        if self.values and self.values[-1] == values[0]:
+            self.values.pop()
+            self.lasts.pop()
+        if values[0] == values[-1] and values.count(values[0]) == len(values):
+            lasts, values = lasts[-1:], values[-1:]
+        ends = [*map(ne, values, islice(values, 1, None)), True]
+        self.lasts.extend(compress(lasts, ends))
+        self.values.extend(compress(values, ends))
+
     def end(self) -> int:
         """The first time that has no value."""
         return self.lasts[-1] + 1 if self.lasts else self.first
@@ -52,15 +71,19 @@ class Runs:
 
     def between(self, first: int, last: int) -> Iterator[tuple[int, int, Any]]:
         """The runs that meet a stretch of times, cut to it."""
-        lasts, values = self.lasts, self.values
-        start = bisect_left(lasts, first)
-        begin = lasts[start - 1] + 1 if start else self.first
-        for k in range(start, len(lasts)):
-            if begin > last:
-                return
-            end = lasts[k]
-            yield first if begin < first else begin, last if end > last else end, values[k]
+        begin = max(first, self.first)
+        for end, value in zip(*self.within(first, last)):
+            yield begin, end, value
             begin = end + 1
+
+    def within(self, first: int, last: int) -> tuple[array[int], Any]:
+        """The last times of the same runs, and their values."""
+        start = bisect_left(self.lasts, first)
+        stop = bisect_left(self.lasts, last, start) + 1 if last >= max(first, self.first) else start
+        lasts = self.lasts[start:stop]
+        if lasts:
+            lasts[-1] = min(last, lasts[-1])
+        return lasts, self.values[start:stop]
 
     def at(self, time: int) -> Any:
         """The value at a time, or None."""
@@ -87,57 +110,88 @@ def header_of(line: bytes) -> list[str]:
 def stamp_of(line: bytes, number: int) -> tuple[int, bytes]:
     """The time of a stamped row, and its rest."""
     stamp, _, rest = line.partition(b",")
-    if not stamp[1:].isdigit() or int(stamp[1:]) >= LATEST:
+    if not stamp[1:].isdigit() or len(stamp.lstrip(b"@0")) > len(str(LATEST)) or int(stamp[1:]) >= LATEST:
         raise Trouble(f"line {number}: bad time stamp")
     return int(stamp[1:]), rest
 
 
+def times_of(stamps: list[str], before: int) -> list[int]:
+    """The times of stamps, or none where they aren't stamps whose times rise from that before them."""
+    digits = "".join(stamps)[1:].split("@")
+    if len(digits) != len(stamps) or not all(map(DIGITS.fullmatch, digits)):
+        return []
+    times = [before, *map(int, digits)]
+    return times[1:] if times[-1] < LATEST and all(map(lt, times, islice(times, 1, None))) else []
+
+
+def width_of(block: bytes) -> int:
+    """Of how many fields each line of a block is; 0 where they differ, or where one is too long."""
+    commas = block.split(b"\n", 1)[0].count(b",")
+    if block.translate(None, NO_SEPARATORS) + b"\n" != (b"," * commas + b"\n") * (block.count(b"\n") + 1):
+        return 0
+    return commas + 1 if len(block) <= LONGEST or max(map(len, block.split(b"\n"))) <= LONGEST else 0
+
+
 class Filler:
-    """Takes rows, and ends the runs of those columns that change."""
+    """Takes rows, and keeps the runs of those columns that are wanted. The last run of each goes on until the next row."""
 
     def __init__(self, places: Sequence[int]) -> None:
         self.places = places
+        self.width = max(places, default=0) + 1
         self.columns = [Runs() for _ in places]
-        self.row: Optional[bytes] = None
-        self.fields: Optional[list[str]] = None
         self.time = -1
         self.stamps: Optional[array[int]] = None
         # Equal fields as one text, so that a long trace takes little memory.
-        self.known: dict[bytes, str] = {}
+        self.known: dict[str, str] = {}
 
-    def close(self, last: int) -> None:
-        """The fields of the row before hold up to this time."""
-        if self.fields is not None:
-            for column, field in zip(self.columns, self.fields):
-                column.add(last, field)
+    def take(self, number: int, block: bytes) -> None:
+        """Takes lines, the first of which has this number: all at once where they are alike, else one by one."""
+        if self.take_alike(block):
+            return
+        for k, line in lines_in(block, number, LONGEST):
+            if line.strip(BLANKS.encode()):
+                self.take_row(k, line)
 
-    def take(self, number: int, line: bytes) -> None:
-        if line[:1] == b"@":
-            self.stamps = array("Q") if self.stamps is None else self.stamps
-            time, line = stamp_of(line, number)
-            if time <= self.time:
-                raise Trouble(f"line {number}: times not rising")
-            self.stamps.append(time)
-        else:
-            time = self.time + 1
-        if line != self.row:
-            self.close(time - 1)
-            self.row, self.fields = line, self.chosen(number, line)
-        self.time = time
-
-    def chosen(self, number: int, line: bytes) -> list[str]:
-        fields = line.split(b",")
+    def take_alike(self, block: bytes) -> bool:
+        """Takes lines with no call for each, where all have as many fields and all or none have a stamp; returns whether they do."""
+        count, width, stamped = block.count(b"\n") + 1, width_of(block), block[:1] == b"@"
+        if width < self.width + stamped or block.count(b"\n@") != (count - 1) * stamped:
+            return False
         try:
-            return [self.known.get(fields[place]) or self.text(fields[place]) for place in self.places]
-        except IndexError:
-            raise Trouble(f"line {number}: too few fields") from None
+            fields = block.decode().replace("\n", ",").split(",")
+        except UnicodeDecodeError:
+            return False
+        times = times_of(fields[::width], self.time) if stamped else range(self.time + 1, self.time + 1 + count)
+        if any(blank.encode() in block for blank in BLANKS):
+            fields = list(map(str.strip, fields, repeat(BLANKS)))
+        if not times or width == 1 and "" in fields:
+            return False
+        self.add(times, stamped, [fields[place + stamped :: width] for place in self.places])
+        return True
 
-    def text(self, raw: bytes) -> str:
-        """A field as a text, without blanks around it."""
-        text = raw.decode("utf-8", "replace").strip(" \t\r")
-        if len(self.known) < MOST_KNOWN:
-            self.known[raw] = text
-        return text
+    def take_row(self, number: int, line: bytes) -> None:
+        time, rest = stamp_of(line, number) if line[:1] == b"@" else (self.time + 1, line)
+        if time <= self.time:
+            raise Trouble(f"line {number}: times not rising")
+        fields = rest.split(b",")
+        if len(fields) < self.width:
+            raise Trouble(f"line {number}: too few fields")
+        texts = [fields[place].decode("utf-8", "replace").strip(BLANKS) for place in self.places]
+        self.add([time], line[:1] == b"@", [[text] for text in texts])
+
+    def add(self, times: Sequence[int], stamped: bool, columns: Sequence[list[str]]) -> None:
+        """Adds rows by column. A row holds up to the next one's time."""
+        lasts = times
+        if stamped:
+            lasts = [*(time - 1 for time in times[1:]), times[-1]]
+            self.stamps = array("Q") if self.stamps is None else self.stamps
+            self.stamps.extend(times)
+        share = self.known.setdefault if len(self.known) < MOST_KNOWN else self.known.get
+        for runs, texts in zip(self.columns, columns):
+            if runs.lasts:
+                runs.lasts[-1] = times[0] - 1
+            runs.extend(lasts, list(map(share, texts, texts)))
+        self.time = times[-1]
 
 
 def places_of(names: list[str], wanted: Optional[Sequence[str]]) -> list[int]:
@@ -154,19 +208,22 @@ def filled(file: Readable, wanted: Optional[list[str]], columns: Optional[list[i
     """The trace of a file. `wanted` are names of columns; without a header they stand at `columns`."""
     trace = Trace()
     filler: Optional[Filler] = None
-    for number, line in lines_of(file, LONGEST):
-        if number == 1 and line[:1] == b"#":
-            names = header_of(line)
+    for number, block in blocks_of(file, LONGEST):
+        if number == 1 and block[:1] == b"#":
+            line, _, block = block.partition(b"\n")
+            if len(line) > LONGEST:
+                raise too_long(number, LONGEST)
+            names, number = header_of(line), 2
             trace.names = wanted if wanted is not None else names
             filler = Filler(places_of(names, wanted))
-        elif line.strip(b" \t\r"):
-            if filler is None:
-                width = line.count(b",") + 1 - (line[:1] == b"@")
-                trace.names = wanted if wanted is not None else [f"column {k}" for k in range(width)]
-                filler = Filler(columns if columns is not None else list(range(width)))
-            filler.take(number, line)
+        if filler is None and block.strip(b"\n" + BLANKS.encode()):
+            row = next(line for line in block.split(b"\n") if line.strip(BLANKS.encode()))
+            width = row.count(b",") + 1 - (row[:1] == b"@")
+            trace.names = wanted if wanted is not None else [f"column {k}" for k in range(width)]
+            filler = Filler(columns if columns is not None else list(range(width)))
+        if filler is not None:
+            filler.take(number, block)
     if filler is not None:
-        filler.close(filler.time)
         trace.columns, trace.times, trace.stamps = filler.columns, filler.time + 1, filler.stamps
     return trace
 

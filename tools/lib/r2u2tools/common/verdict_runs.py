@@ -18,10 +18,9 @@ def verdict_runs(file: Union[str, Path], trace: str, timed: bool = False, source
     found: dict[str, Runs] = {}
     with subprocess.Popen(words, stdout=subprocess.PIPE, stderr=subprocess.PIPE) as run:
         assert run.stdout and run.stderr
-        for name, _, last, word in Reader("r2u2").stretches(run.stdout):
-            if name not in found:
-                found[name] = Runs()
-            found[name].add(last, word)
+        for parts in Reader("r2u2").parts(run.stdout):
+            for name, part in parts.items():
+                found.setdefault(name, Runs()).extend(part.times, part.words)
         text = message(run.stderr.read())
     if run.returncode:
         raise Trouble(f"{trace}: {text or f'r2u2 ended with status {run.returncode}'}")

@@ -111,9 +111,19 @@ class Probe:
         definitions, body = self.source.with_edit(requirement, mutant.edit, label)
         return Trial(requirement.section, agreement(self.source.body(requirement), body), definitions)
 
+    def without_reach(self, requirement: Requirement, asked: Sequence[Mutant]) -> set[int]:
+        """Which changes leave a requirement as it is, since they are in what it doesn't read, as in another part of a struct."""
+        trials = [Trial(requirement.section, body, lines) for lines, body in self.edits(requirement, asked)]
+        return self.trials.alike(Trial(requirement.section, self.source.body(requirement)), trials)
+
+    def edits(self, requirement: Requirement, asked: Sequence[Mutant]) -> list[tuple[str, str]]:
+        return [self.source.with_edit(requirement, mutant.edit, str(k)) for k, mutant in enumerate(asked)]
+
     def mutate(self, requirement: Requirement, finding: Finding) -> None:
         """Tries each small change: a log notices it where it has another verdict somewhere."""
-        tried = list(mutants(self.source, requirement))
+        asked = list(mutants(self.source, requirement))
+        left_out = self.without_reach(requirement, asked)
+        tried = [mutant for k, mutant in enumerate(asked) if k not in left_out]
         false = self.trials.false([self.trial(requirement, mutant, str(k)) for k, mutant in enumerate(tried)])
         finding.mutants = len(tried) - false.count(None)
         finding.noticed = false.count(True)
@@ -129,11 +139,12 @@ class Probe:
             text = plain(self.source.text, body[part.first : part.last])
             asked += constants(part, number, body, self.source.place(body[part.first]), text)
         false = self.trials.false([self.trial(requirement, mutant, str(k)) for k, mutant in enumerate(asked)])
+        unread = self.without_reach(requirement, asked)
         told: list[tuple[int, Expression]] = []
         result = []
         for k, (part, number) in enumerate(found):
             inside = any(number == item and outer.first <= part.first and part.last <= outer.last for item, outer in told)
-            if false[2 * k] is False and false[2 * k + 1] is False and not inside:
+            if false[2 * k] is False and false[2 * k + 1] is False and not inside and not unread >= {2 * k, 2 * k + 1}:
                 told.append((number, part))
                 place = asked[2 * k].place
                 result.append(Unused(place.line, place.column, asked[2 * k].old))

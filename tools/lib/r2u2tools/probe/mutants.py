@@ -2,10 +2,11 @@
 
 from __future__ import annotations
 
-from dataclasses import dataclass
+from dataclasses import dataclass, replace
 from typing import Iterator
 
-from r2u2tools.common.expressions import COMPARISONS, TEMPORAL, TRUTHS, Expression
+from r2u2tools.common.compiled import arguments
+from r2u2tools.common.expressions import COMPARISONS, TEMPORAL, TRUTHS, Expression, plain, tree_of
 from r2u2tools.common.specs import Token
 from r2u2tools.probe.requirements import Edit, Place, Requirement, Source
 
@@ -98,21 +99,30 @@ def is_negated(body: list[Token], k: int) -> bool:
 
 
 def around(body: list[Token], k: int, text: str) -> tuple[str, str]:
-    """A number with its interval, or with its sign and its comparison, as it is and as it becomes."""
-    first, last = k - is_negated(body, k), k + 1
+    """A number with its interval, or with its whole comparison, or else with its sign, as it is and as it becomes."""
     if (found := interval_places(body).get(k)) is not None:
-        first, last = found[0] - 2, found[1] + 2
-    elif first >= 2 and body[first - 1].text in COMPARISONS:
-        first -= 2
-    elif last + 1 < len(body) and body[last].text in COMPARISONS:
-        last += 2
-    words = [token.text for token in body]
-    return written(words[first:last]), written([*words[first:k], text, *words[k + 1 : last]])
+        told = body[found[0] - 2 : found[1] + 2]
+    else:
+        told = comparison_of(body, body[k]) or body[k - is_negated(body, k) : k + 1]
+    return changed(told, body[k], body[k].text), changed(told, body[k], text)
 
 
-def written(words: list[str]) -> str:
-    """A few tokens: comparisons with spaces, intervals and signs without."""
-    return "".join(f" {word} " if word in COMPARISONS else word for word in words)
+def comparison_of(body: list[Token], token: Token) -> list[Token]:
+    """The tokens of the innermost comparison that has a token, also within a set or a struct; none where no comparison has it."""
+    left, found = [body], list[Token]()
+    while left:
+        read = left.pop()
+        tree = tree_of(read)
+        for it in tree.each() if tree else ():
+            if read[it.first].start <= token.start < read[it.last - 1].end:
+                found = read[it.first : it.last] if it.op in COMPARISONS else found
+                left += arguments(read[it.first : it.last]) if not it.parts else []
+    return found
+
+
+def changed(told: list[Token], token: Token, text: str) -> str:
+    """Some tokens as they are written, with a text in the place of one."""
+    return plain("", [replace(it, text=text) if it is token else it for it in told])
 
 
 def operators(source: Source, number: int) -> Iterator[Mutant]:
@@ -124,8 +134,10 @@ def operators(source: Source, number: int) -> Iterator[Mutant]:
             yield Mutant("operator", Edit(number, k, k + 1, ""), source.place(body[k]), "!", "nothing")
         if it.op == "-" and len(it.parts) == 2:
             yield Mutant("operator", Edit(number, k, k + 1, "+"), source.place(body[k]), "-", "+")
+        told = body[it.first : it.last] if it.op in COMPARISONS else body[k : k + 1]
         for other in SWAPPED.get(it.op, ()):
-            yield Mutant("operator", Edit(number, k, k + 1, other), source.place(body[k]), it.op, other)
+            old, new = changed(told, body[k], it.op), changed(told, body[k], other)
+            yield Mutant("operator", Edit(number, k, k + 1, other), source.place(body[k]), old, new)
 
 
 def parts(source: Source, requirement: Requirement) -> Iterator[tuple[Expression, int]]:

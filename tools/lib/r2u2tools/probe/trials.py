@@ -9,6 +9,7 @@ from pathlib import Path
 from typing import Iterator, Optional, Sequence
 
 from r2u2tools.common.cli import Trouble, opened
+from r2u2tools.common.compiled import text_of
 from r2u2tools.common.programs import message, program, ran
 from r2u2tools.common.streams import lines_of
 from r2u2tools.common.traces import LONGEST
@@ -80,6 +81,23 @@ class Trials:
             found[kept[place]] = None
             del kept[place]
         return []
+
+    def alike(self, first: Trial, others: Sequence[Trial]) -> set[int]:
+        """Which formulas c2po compiles to the same as the first, and so have the same verdicts over any log."""
+        found: set[int] = set()
+        self.compiled = ()
+        left = list(batches(others))
+        while left:
+            batch = left.pop()
+            refused = self.refused([first, *(others[k] for k in batch)])
+            if refused is None:
+                mine, *theirs = (output.operands() for output in text_of(Path(self.folder, "trials.obs")).outputs)
+                found.update(k for k, its in zip(batch, theirs) if its == mine)
+            elif refused[1].startswith(TOO_LARGE) and len(batch) > 1:
+                left += [batch[: len(batch) // 2], batch[len(batch) // 2 :]]
+            elif refused[0] > 0:
+                left.append([k for k in batch if k != batch[refused[0] - 1]])
+        return found
 
     def refused(self, trials: Sequence[Trial]) -> Optional[tuple[int, str]]:
         """Compiles formulas as outputs; which of them c2po refuses first, and why, or None."""

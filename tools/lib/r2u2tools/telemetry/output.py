@@ -5,7 +5,6 @@ from __future__ import annotations
 import os
 import stat
 import sys
-import tempfile
 from typing import IO, Any, Optional, Sequence
 
 from r2u2tools.common.cli import told_os
@@ -15,24 +14,31 @@ class Output:
     """Where the trace goes. A file takes its place only when it is whole."""
 
     def __init__(self, path: Optional[str], sources: Sequence[IO[bytes]]) -> None:
-        self.path = path
+        self.path, self.file = path, sys.stdout
         self.temporary: Optional[str] = None
         self.live = not all(is_regular(source) for source in sources)
 
     def __enter__(self) -> "Output":
-        if not self.path or self.path == "-":
-            self.file = sys.stdout
-            return self
         try:
-            if os.path.exists(self.path) and not os.path.isfile(self.path):
-                self.file = open(self.path, "w", encoding="utf-8")
-            else:
-                folder = os.path.dirname(os.path.abspath(self.path))
-                handle, self.temporary = tempfile.mkstemp(prefix=".trace", dir=folder)
-                self.file = os.fdopen(handle, "w", encoding="utf-8")
+            self.begin()
         except OSError as fault:
+            self.__exit__()
             raise told_os(self.path, "write", fault) from None
+        except BaseException:
+            self.__exit__()
+            raise
         return self
+
+    def begin(self) -> None:
+        """Opens the file. Its name is known before it is there, so that a signal at any time removes it."""
+        if not self.path or self.path == "-":
+            return
+        if os.path.exists(self.path) and not os.path.isfile(self.path):
+            self.file = open(self.path, "w", encoding="utf-8")
+            return
+        self.temporary = os.path.join(os.path.dirname(os.path.abspath(self.path)), f".trace{os.urandom(8).hex()}")
+        handle = os.open(self.temporary, os.O_WRONLY | os.O_CREAT | os.O_EXCL | os.O_CLOEXEC, 0o600)
+        self.file = os.fdopen(handle, "w", encoding="utf-8")
 
     def write(self, text: str) -> None:
         """Writes a text, at once where the input comes from a pipe."""
@@ -56,7 +62,7 @@ class Output:
     def __exit__(self, *_: Any) -> None:
         if self.file is not sys.stdout:
             self.file.close()
-        if self.temporary:
+        if self.temporary and os.path.exists(self.temporary):
             os.unlink(self.temporary)
 
 

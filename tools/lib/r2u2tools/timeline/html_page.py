@@ -3,18 +3,27 @@
 from __future__ import annotations
 
 import json
+from array import array
 from base64 import b64encode
+from bisect import bisect_left, bisect_right
 from html import escape
+from itertools import chain, compress, islice
+from operator import ne, or_, sub
 from pathlib import Path
 from string import Template
-from typing import Any, Optional
+from typing import Any, Iterable, Iterator, Optional
 
-from r2u2tools.common.cli import plain
+from r2u2tools.common.cli import Trouble, plain
 from r2u2tools.common.palette import css
 from r2u2tools.common.progress import Progress
 from r2u2tools.timeline.model import Column, Lane, Model
 
 PAGE = Path(__file__).resolve().parent / "page.html"
+# The groups that end a number, and those after which it goes on.
+LAST_GROUPS = [bytes([low]) for low in range(128)]
+FIRST_GROUPS = [bytes([low | 128]) for low in range(128)]
+MOST_KEPT = 1 << 14
+BLOCK = 1 << 16
 
 
 class PageTemplate(Template):
@@ -25,66 +34,73 @@ class PageTemplate(Template):
     braceidpattern = "[a-z]+"
 
 
-def pack(out: bytearray, number: int) -> None:
-    """A number in groups of 7 bits, the lowest first."""
+def code(number: int) -> bytes:
+    """A number packed, in groups of 7 bits, the lowest first."""
+    out = bytearray()
     while number > 127:
         out.append(number & 127 | 128)
         number >>= 7
-    out.append(number)
+    return bytes([*out, number])
 
 
-def code(number: int) -> bytes:
-    """A number packed by itself."""
-    out = bytearray()
-    pack(out, number)
-    return bytes(out)
+class Codes(dict[int, bytes]):
+    """Numbers packed by themselves, of which those below a bound are kept."""
+
+    def __missing__(self, number: int) -> bytes:
+        found = code(number)
+        if number < MOST_KEPT:
+            self[number] = found
+        return found
+
+
+def numbered() -> Iterator[bytes]:
+    """All numbers packed, from 0 on."""
+    yield from LAST_GROUPS
+    for high in islice(numbered(), 1, None):
+        for low in FIRST_GROUPS:
+            yield low + high
+
+
+def distances(numbers: Any, before: int) -> Iterator[int]:
+    """How far each number is after the one before it."""
+    return map(sub, numbers, chain([before], numbers))
+
+
+def encoded(parts: Iterable[bytes]) -> str:
+    """Packed numbers, as a text."""
+    out, rest = bytearray(), iter(parts)
+    while block := b"".join(islice(rest, BLOCK)):
+        out += block
+    return b64encode(out).decode("ascii")
 
 
 def packed(runs: Any, first: int, last: int) -> dict[str, Any]:
     """Runs between two times: the values that occur, and for each run its length and the place of its value."""
-    codes, out, after = dict[str, bytes](), bytearray(), first
-    for _, end, value in runs.between(first, last):
-        place = codes.get(value)
-        if place is None:
-            place = codes[value] = code(len(codes))
-        length, after = end + 1 - after, end + 1
-        out += SHORT[length] if length < len(SHORT) else code(length)
-        out += place
-    return {"values": list(codes), "runs": b64encode(out).decode("ascii")}
+    lasts, values = runs.within(first, last)
+    places: dict[str, bytes] = dict(zip(dict.fromkeys(values), numbered()))
+    parts = zip(map(Codes().__getitem__, distances(lasts, first - 1)), map(places.__getitem__, values))
+    return {"values": list(places), "runs": encoded(chain.from_iterable(parts))}
 
 
 def packed_told(lane: Lane, first: int, last: int) -> str:
     """The deciding rows: how often a step is repeated, how many times it decides, and how far after the last of them."""
-    out, count = bytearray(), 0
-    step: Optional[tuple[int, int]] = None
-    for begin, end, row in lane.told.between(first, last):
-        now = (end - begin + 1, row - end)
-        if now == step:
-            count += 1
-            continue
-        if step:
-            for number in (count, *step):
-                pack(out, number)
-        step, count = now, 1
-    if step:
-        for number in (count, *step):
-            pack(out, number)
-    return b64encode(out).decode("ascii")
+    lasts, rows = lane.told.within(first, last)
+    lengths, delays = array("q", distances(lasts, first - 1)), array("q", map(sub, rows, lasts))
+    if min(delays, default=0) < 0:
+        raise Trouble(f"{lane.name} has a line before the row of its time: the output of --ticks hasn't a line with every row")
+    changes = map(or_, map(ne, lengths, islice(lengths, 1, None)), map(ne, delays, islice(delays, 1, None)))
+    ends = [*changes, True]
+    counts = distances(array("Q", compress(range(len(lasts)), ends)), -1)
+    steps = zip(counts, compress(lengths, ends), compress(delays, ends))
+    return encoded(map(Codes().__getitem__, chain.from_iterable(steps)))
 
 
 def packed_stamps(model: Model) -> Optional[str]:
     """The distances of stamps."""
     if model.stamps is None:
         return None
-    out, before = bytearray(), model.first
-    for stamp in model.stamps:
-        if model.first <= stamp <= model.last:
-            pack(out, stamp - before)
-            before = stamp
-    return b64encode(out).decode("ascii")
-
-
-SHORT = [code(length) for length in range(1024)]
+    shown = model.stamps[bisect_left(model.stamps, model.first) : bisect_right(model.stamps, model.last)]
+    return encoded(map(Codes().__getitem__, distances(shown, model.first)))
 
 
 def column_data(column: Column, model: Model) -> dict[str, Any]:

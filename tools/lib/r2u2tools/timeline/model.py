@@ -5,12 +5,14 @@ from __future__ import annotations
 import re
 from bisect import bisect_left
 from dataclasses import dataclass, field
-from typing import Any, Optional
+from itertools import chain, repeat, starmap
+from operator import sub
+from typing import Any, Optional, Sequence
 
 from r2u2tools.common.cli import Trouble, opened
 from r2u2tools.common.progress import Progress
 from r2u2tools.common.traces import Runs, filled
-from r2u2tools.common.verdict_lines import Reader
+from r2u2tools.common.verdict_lines import Part, Reader
 
 COMMENT = re.compile(r"--[^\n]*")
 
@@ -126,28 +128,37 @@ def take_trace(model: Model, path: str, signals: Optional[list[Any]], every: boo
 
 def take_lines(model: Model, file: Any, what: str = "", ticks: Optional[str] = None) -> None:
     """Adds the words of all lines. Where an output `ticks` has a line with each row, it shows which row decided the others."""
-    waiting: list[tuple[Lane, int]] = []
-    for name, _, last, word in Reader(what).stretches(Watched(file, "reading verdicts")):
-        if name == ticks:
-            row = decided_by(model, last)
-            for lane, end in waiting:
-                lane.told.add(end, row)
-            waiting.clear()
-            continue
-        lane = model.lane(name)
-        lane.words.add(last, word)
-        if ticks:
-            waiting.append((lane, last))
-        if last > model.last:
-            model.last = last
+    waiting: list[tuple[Lane, Sequence[int]]] = []
+    for parts in Reader(what).parts(Watched(file, "reading verdicts")):
+        rows = parts.pop(ticks, None) if ticks else None
+        for name, part in parts.items():
+            model.lane(name).words.extend(part.times, part.words)
+            model.last = max(model.last, part.times[-1])
+        if rows:
+            decided(model, parts, rows, waiting)
+        elif ticks:
+            waiting += [(model.lane(name), part.times) for name, part in parts.items()]
 
 
-def decided_by(model: Model, row: int) -> int:
+def decided(model: Model, parts: dict[str, Part], ticks: Part, waiting: list[tuple[Lane, Sequence[int]]]) -> None:
+    """Tells lanes the rows that decided their words, each that of the next tick. What has no tick yet waits, as what is told here did."""
+    rows = ticks.times if model.stamps is None else [decided_by(model.stamps, time) for time in ticks.times]
+    for lane, times in waiting:
+        lane.told.extend(times, [rows[0]] * len(times))
+    waiting.clear()
+    gaps = map(sub, ticks.places, chain([-1], ticks.places))
+    row_of = list(chain.from_iterable(starmap(repeat, zip(rows, gaps))))
+    for name, part in parts.items():
+        lane, count = model.lane(name), bisect_left(part.places, len(row_of))
+        lane.told.extend(part.times[:count], list(map(row_of.__getitem__, part.places[:count])))
+        if count < len(part.times):
+            waiting.append((lane, part.times[count:]))
+
+
+def decided_by(stamps: Any, row: int) -> int:
     """Returns the time of the line of the trace that brings a row: in a gap between stamps it is the next stamp."""
-    if model.stamps is None:
-        return row
-    k = bisect_left(model.stamps, row)
-    return int(model.stamps[k]) if k < len(model.stamps) else row
+    k = bisect_left(stamps, row)
+    return int(stamps[k]) if k < len(stamps) else row
 
 
 def cut_to(model: Model, first: Optional[int], last: Optional[int]) -> None:
@@ -159,7 +170,7 @@ def cut_to(model: Model, first: Optional[int], last: Optional[int]) -> None:
 
 def is_constant(runs: Any, first: int, last: int) -> bool:
     """Returns whether one value holds at all times of a stretch, or none at any."""
-    values = {value for _, _, value in runs.between(first, last)}
+    values = set(runs.within(first, last)[1])
     return not values or len(values) == 1 and runs.end() > last
 
 

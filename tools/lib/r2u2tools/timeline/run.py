@@ -45,6 +45,7 @@ def run(words: list[str], model: Model, every: bool) -> Optional[str]:
         model.why = why_command(told.file, told.trace, "--timed" in told.flags)
         model.title = title_of(given) if not given.is_program() else ""
         take_trace(model, told.trace, given.signals, every)
-        again = Command([command.words[0], *told.with_file(file, not given.is_program())], quiet=True)
+        flags = [] if "--runs" in told.flags else ["--runs"]
+        again = Command([command.words[0], *flags, *told.with_file(file, not given.is_program())], quiet=True)
         again.run(lambda lines: take_lines(model, lines, "", ticks), result)
     return str(result.failed[0]["message"]) if result.failed else None
