@@ -1,7 +1,7 @@
 """Names and numbers that make a table by hashes slow, where its hash is known: those begin alike and lead to one region.
 
 Of a hash 32 bits count: its two halves together. The highest byte of these is the tag, the lowest bits are the group.
-What has one tag is compared until the right one is found; what leads to one region stands together. Names collide where
+What has one tag is compared until the right one is found; what leads to one region lies together. Names collide where
 they are hashed by folded multiplication from a fixed state, their length first and then byte by byte, as the tables of
 the library do. Numbers collide where the items of core_graph are hashed by SipHash-1-3 with keys 0; there the hash has a
 key that is made of all numbers of a text, so that no text whose own numbers collide is known.
@@ -52,7 +52,7 @@ def ends(state):
 
 
 def kept(name, search, count):
-    """What a search found, which a file beside this one keeps, so that it is searched for once."""
+    """What a search found, which a file next to this one keeps, so that it is searched for once."""
     path = os.path.join(os.path.dirname(os.path.abspath(__file__)), 'colliding-' + name)
     if not os.path.exists(path):
         with open(path + '.part', 'w') as file:

@@ -8,7 +8,7 @@
     bench/hostile.py --list
 
 Texts are compiled as they are, with --table, with --simplify, with a header, and run by r2u2 --source over an empty trace,
-so up to the first row. Programs are run by r2u2 and written anew by c2po --upgrade and, where the text of one fits, --show. A line has the seconds of
+so up to the first row. Programs are run by r2u2 and written again by c2po --upgrade and, where the text of one fits, --show. A line has the seconds of
 user time, the peak of memory and the code of a run. A run is past the bounds above 5 seconds, above 512 MB, of a program
 768 MB, where it needs more than 2 MiB of stack, and where it doesn't end within the limit (--seconds, of the processor's
 time). One that is refused at once shows nothing, and isn't counted.
@@ -107,7 +107,7 @@ def runs_of_program(asked, folder, it, path):
 
 
 def program_file(asked, folder, it):
-    """The program in a file; one that is made from a specification is compiled, for the trace's header where it has one."""
+    """The program in a file; a specification is compiled first, for the trace's header where it has one."""
     made = it.make()
     if isinstance(made, bytes):
         return written(folder, it.name + '.obs', made)

@@ -19,7 +19,7 @@ def output(name, number):
 
 
 def program(bz=(), ft=(), outputs=(), signals=(), width=0):
-    """The bytes of version 2: instructions as bytes, outputs as names, which all tell instruction 0, and signals as names."""
+    """The bytes of version 2: instructions as bytes, outputs as names, which all report instruction 0, and signals as names."""
     names, known = ''.join(outputs).encode(), ''.join(signals).encode()
     head = b'MLTL' + struct.pack('<HH8I', 2, 0, width, len(bz), len(ft), 0, len(outputs), len(names), len(signals), len(known))
     entries = [struct.pack('<IBBH', column, 1, len(name), 0) for column, name in enumerate(signals)]

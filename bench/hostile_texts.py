@@ -20,7 +20,7 @@ def members(count, form='p'):
 
 
 def pair(number):
-    """A definition that makes 43,000 nodes of its own."""
+    """A definition that makes 43,000 nodes."""
     return 'h%d := foreach(v: s)(forsome(w: s)(F[0,%d](v)));\n' % (number, number)
 
 
@@ -55,7 +55,7 @@ PAIRED = SIGNALS + 'DEFINE s := {' + members(147) + '};\n'
 
 
 def structs_within(fields, depth, definitions):
-    """Definitions that pick through `depth` structs of so many fields, in bodies that count for nothing."""
+    """Definitions that pick through `depth` structs, each with `fields` members, in bodies that count for nothing."""
     names = ['f%c%c' % (97 + k // 26, 97 + k % 26) for k in range(fields - 1)]
     kinds = ['STRUCT t%d: { %s: bool; zz: %s; };\n' % (k, ','.join(names), 't%d' % (k - 1) if k else 'bool')
              for k in range(depth)]
@@ -123,13 +123,13 @@ def different_picks(definitions):
 
 
 def declared(names):
-    """Signals of these names, as many to an item as its words and signs allow."""
+    """Signals of these names, as many to an item as its tokens allow."""
     lists = (','.join(names[k:k + 500]) for k in range(0, len(names), 500))
     return 'INPUT\n' + ''.join('%s: bool;\n' % names for names in lists) + 'FTSPEC %s;\n' % names[0]
 
 
 def constants(numbers):
-    """Comparisons with so many numbers, which outputs reach."""
+    """Comparisons with these numbers, which outputs reach."""
     sums = ('FTSPEC x == %s;\n' % '+'.join(['x', *numbers[k:k + 400]]) for k in range(0, len(numbers), 400))
     return 'INPUT x: int;\n' + ''.join(sums)
 

@@ -1,4 +1,4 @@
-"""Runs a command and tells what it took."""
+"""Runs a command and returns what it took."""
 import collections
 import subprocess
 import tempfile
@@ -9,7 +9,7 @@ Taken = collections.namedtuple('Taken', 'status seconds user system peak')
 def measured(words, **streams):
     """The status of a command, its seconds, those in user and in system mode, and its peak of memory in MB.
 
-    GNU time starts it, for what the kernel tells of a child of Python's own is never below Python's own peak.
+    GNU time starts it, for what the kernel reports of a child of Python is never below Python's own peak.
     """
     with tempfile.NamedTemporaryFile('r') as told:
         status = subprocess.run(['time', '-q', '-f', '%e %U %S %M', '-o', told.name, *words], **streams).returncode

@@ -278,7 +278,7 @@ static size_t sizes_of(const uint8_t *entries, size_t count) {
     return sum;
 }
 
-/* Reads the counts of a program, and says whether its header says that it has so many bytes. */
+/* Reads the counts of a program, and says whether its header gives that number of bytes. */
 static bool read_counts(const uint8_t *program, size_t count, struct r2u2_counts *counts) {
     bool whole = false;
     if (count >= HEADER_1) {

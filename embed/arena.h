@@ -55,7 +55,7 @@ size_t r2u2_pool_most(const struct r2u2_pool *pool);
 
 /* How many bytes of an array suffice to open this program by r2u2_open or r2u2_open_checked in a pool where no monitor is open,
  * and to keep it open: 0 for bytes that are no program by their header, at which no block is asked for. It goes over the bytes
- * once and takes no memory. That the number suffices is tested, not proved; r2u2_pool_most returns what was needed. */
+ * once and allocates nothing. That the number suffices is tested, not proved; r2u2_pool_most returns what was needed. */
 size_t r2u2_open_bytes(const uint8_t *program, size_t count);
 
 /* The same with one pool for the whole program: makes it of the `count` bytes at `memory`, and uses it. No monitor is open. */

@@ -99,7 +99,7 @@ check-misra:
 
 check-misuse: | $(TRIES)
 	$(TARGET_CC) $(WARNED) -O1 $(STRICT) -o $(TRIES)/misuse embed/misuse.c $(EMBED)/libr2u2.a -lpthread
-	$(RUN) $(TRIES)/misuse $(GRANT)
+	@$(RUN) $(TRIES)/misuse $(GRANT) > $(TRIES)/misuse.out; status=$$?; cat $(TRIES)/misuse.out; exit $$status
 
 check-arena: | $(TRIES)
 	$(TARGET_CC) $(WARNED) -O1 $(STRICT) -o $(TRIES)/arena embed/arena_test.c embed/arena.c $(EMBED)/libr2u2.a
@@ -221,7 +221,7 @@ INSTALLED_SOURCES = embed/arena.c embed/arena.h embed/memory.c embed/constant em
 install: install-embed
 uninstall: uninstall-embed
 
-# The shared object stands in a folder of its own, so that -lr2u2 finds the archive. It is for the processor of the tools.
+# The shared object is in a separate folder, so that -lr2u2 finds the archive. It is for the processor of the tools.
 ifeq ($(TARGET),x86_64)
 INSTALLED_OBJECT = $(SHARED_OBJECT)
 endif

@@ -294,7 +294,7 @@ static const uint8_t GRANT_DIGEST[R2U2_DIGEST_BYTES] = {
     0xed, 0xe8, 0x7a, 0xa9, 0xae, 0xa7, 0x94, 0xe4, 0x88, 0x1f, 0xd8, 0xc0, 0xb9, 0x7a, 0xf9, 0x55,
     0x84, 0x6e, 0x2c, 0x97, 0x91, 0xcd, 0x21, 0x55, 0x9c, 0xab, 0x35, 0xdc, 0xff, 0x32, 0x00, 0xb9};
 
-/* A program that differs in one bit from the one that has the digest is never opened, and neither is one with another digest. */
+/* A program that differs in one bit from that of the digest is never opened, and neither is one with another digest. */
 static void digests(void) {
     struct r2u2 it = {0};
     struct r2u2_fault fault = {0};
@@ -398,7 +398,7 @@ static void each_block_refused_to_bytes(void) {
     }
     refused = -1;
     CHECK(code == R2U2_DONE && fault.kind == 0);
-    printf("blocks asked for to tell the bytes: %ld\n", k - 1);
+    printf("blocks asked for to count the bytes: %ld\n", k - 1);
 }
 
 static void moved(void) {

@@ -1,7 +1,8 @@
 /* r2u2.h: the proved monitor of Mission-time LTL, for programs in C and C++.
  *
  * `make embed` leaves the library with this header in build/x86_64/: link libr2u2.a, and with it libr2u2_heap.a, by which
- * it calls malloc, realloc and free, or arena.c in the place of these. docs/assurance/promises.md says what is proved of each call.
+ * it calls malloc, realloc and free, or arena.c in the place of these. docs/assurance/promises.md says what is proved of
+ * each call.
  *
  * WHAT A CALLER OWES. The calls are proved for callers that keep to this, and nothing checks that they do.
  *
@@ -54,7 +55,7 @@ enum r2u2_code {
     R2U2_DONE = 0,
     R2U2_NOT_OPEN = 1,      /* the struct has no monitor */
     R2U2_ALREADY_OPEN = 2,  /* the struct has a monitor: close it first */
-    R2U2_REFUSED = 3,       /* the program or the header has a fault, which was told */
+    R2U2_REFUSED = 3,       /* the program or the header has a fault, which `fault` has */
     R2U2_NO_MEMORY = 4,     /* out of memory */
     R2U2_REPORTS_LEFT = 5,  /* ask for the reports of the last row first */
     R2U2_NOT_A_ROW = 6,     /* the numbers aren't a row of the program */
@@ -153,7 +154,8 @@ uint32_t r2u2_open_checked(struct r2u2 *it, const uint8_t *program, size_t count
 /* Returns in `bytes` how many bytes a monitor of this program holds from its opening on, in all its blocks together: the sum
  * of the sizes that it allocated. An allocator adds bytes to each of at most R2U2_BLOCKS blocks; arena.c adds 16 to a
  * block, and what makes its size a multiple of 8. Opening holds other blocks for a while, and so does this call;
- * r2u2_open_bytes of arena.h returns how many bytes suffice. Each column that a header has beyond those of the program takes 17 bytes more.
+ * r2u2_open_bytes of arena.h returns how many bytes suffice. Each column that a header has beyond those of the program
+ * takes 17 bytes more.
  *
  * R2U2_DONE: `bytes` has it. R2U2_REFUSED: `fault` has the first fault of the program. R2U2_NO_MEMORY. */
 uint32_t r2u2_bytes(const uint8_t *program, size_t count, uint64_t *bytes, struct r2u2_fault *fault);
@@ -196,8 +198,8 @@ uint32_t r2u2_delay(struct r2u2 *it, uint32_t k);
 /* What an output is; 0 is neither. */
 enum r2u2_output_kind { R2U2_FORMULA = 1, R2U2_CONTRACT = 2 };
 
-/* Returns the kind of output `k`, an r2u2_output_kind; 0 also where there isn't such an output. A formula is reported as false or true, a
- * contract as inactive, invalid or verified. */
+/* Returns the kind of output `k`, an r2u2_output_kind; 0 also where there isn't such an output. A formula is reported as
+ * false or true, a contract as inactive, invalid or verified. */
 uint32_t r2u2_output_kind(struct r2u2 *it, uint32_t k);
 
 /* What a signal's column holds. */

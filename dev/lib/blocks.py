@@ -16,7 +16,9 @@ The word after the three backticks says what a block is:
 `title="NAME"` makes a file of the block, in a folder that all blocks of a page
 share. `file="PATH"` says that the block is a file of the repository, which other
 tests compile. `needs="NAME"` skips a block where no program has the name; the name
-`library` is build/x86_64/libr2u2.a, `libr2u2.so` the shared object of build/.
+`library` is build/x86_64/libr2u2.a, `libr2u2.so` the shared object of build/. Without
+these two a block isn't skipped but wrong, where the programs and what builds a library
+are there.
 """
 
 import ast
@@ -37,6 +39,11 @@ FENCE = re.compile(r"^( *)```(\w*)([^\n`]*)\n(.*?)^\1```[ \t]*$", re.S | re.M)
 KNOWN = {"console", "c2po", "csv", "c", "cpp", "python", "sh", "rattle", "antt", "yaml", "json", "groovy", "text"}
 # Commands that a test of two minutes can't run: they prove, build, install, or need other machines.
 UNTRIED = {"make", "rt", "apt-get", "sbatch", "cargo", "git", "bench/run", "pkg-config", "--sshloginfile"}
+# What compiles listings.
+COMPILERS = {"c": "cc", "cpp": "c++"}
+# What `make check-embed` needs to build the library, next to what proves it.
+BUILDERS = ["cc", "make"]
+LIBRARIES = ("library", "libr2u2.so")
 MARK = "--- of this command --- "
 
 
@@ -58,6 +65,13 @@ class Place:
 
     root: Path
     programs: Dict[str, Optional[str]]
+    # Whether a block is wrong without a library that could have been built.
+    library: bool = True
+
+    def wants(self, need: str) -> bool:
+        """Whether what a block needs isn't there and could have been built."""
+        could = all(self.programs.values()) and all(map(shutil.which, BUILDERS))
+        return self.library and need in LIBRARIES and could and not self.has(need)
 
     def has(self, need: str) -> bool:
         if need == "library":
@@ -77,13 +91,13 @@ def blocks_of(page: Path, text: str) -> List[Block]:
     return found
 
 
-def place_of(root: Path) -> Place:
+def place_of(root: Path, library: bool) -> Place:
     """The programs that the environment names, else those of build/."""
     programs: Dict[str, Optional[str]] = {}
     for name in ("r2u2", "c2po"):
         path = os.environ.get(name.upper()) or str(root / "build" / name)
         programs[name] = os.path.abspath(path) if os.access(path, os.X_OK) else None
-    return Place(root, programs)
+    return Place(root, programs, library)
 
 
 def commands_of(text: str) -> List[List[str]]:
@@ -105,7 +119,7 @@ def commands_of(text: str) -> List[List[str]]:
 
 
 def agree(wanted: List[str], given: List[str]) -> bool:
-    """Whether lines are those that a page shows, where a line `...` stands for any lines."""
+    """Whether lines are those that a page shows, where a line `...` is any lines."""
     form = "".join("(?:.*\n)*?" if line == "..." else re.escape(line.rstrip()) + "\n" for line in wanted)
     return re.fullmatch(form, "".join(line.rstrip() + "\n" for line in given)) is not None
 
@@ -163,18 +177,16 @@ def run_tool(words: List[str], text: str = "", cwd: Optional[Path] = None) -> It
 
 def compile_listing(block: Block, place: Place) -> Iterator[str]:
     """Compiles a listing in C or C++; statements without a function are put into one."""
-    compiler, language, standard = ("cc", "c", "-std=c11") if block.kind == "c" else ("c++", "c++", "-std=c++17")
-    if not shutil.which(compiler):
-        return
+    language, standard = ("c", "-std=c11") if block.kind == "c" else ("c++", "-std=c++17")
     folders = [f"-I{place.root / name}" for name in ("include", "embed", "embed/cpp", "dev/stubs")]
     text = block.text
     if not re.search(r"^(?:[A-Za-z_].*\)|#include.*|.*class .*|.*template.*)(?:\s*\{.*)?$", text, re.M) or block.marks.get("in") == "function":
         text = "#include <string.h>\n#include \"page.h\"\nvoid page(void);\nvoid page(void) {\n" + text + "\n}\n"
-    yield from run_tool([compiler, "-x", language, standard, "-fsyntax-only", "-Wall", "-Werror=implicit-function-declaration", *folders, "-"], text)
+    yield from run_tool([COMPILERS[block.kind], "-x", language, standard, "-fsyntax-only", "-Wall", "-Werror=implicit-function-declaration", *folders, "-"], text)
 
 
 class Session:
-    """The blocks of one page, run in order in a folder of their own."""
+    """The blocks of one page, run in order in a separate folder."""
 
     def __init__(self, place: Place, folder: Path):
         self.place, self.folder = place, folder
@@ -204,7 +216,7 @@ class Session:
                 (folder / f"r2u2-{tool.name}").symlink_to(tool)
 
     def keep(self, block: Block) -> Path:
-        """The file of a block: that of its title, or one that no page names."""
+        """The file of a block: that of its title, or a new one."""
         self.count += 1
         file = self.folder / (block.marks.get("title") or f"block-{self.count}.{block.kind}")
         file.parent.mkdir(parents=True, exist_ok=True)
@@ -215,17 +227,28 @@ class Session:
             file.chmod(0o755)
         return file
 
+    def lacks(self, block: Block) -> Optional[str]:
+        """What a block needs and isn't there."""
+        need = next((it for it in block.marks.get("needs", "").split() if not self.place.has(it)), None)
+        compiler = COMPILERS.get(block.kind, "")
+        if not need and compiler and not shutil.which(compiler):
+            return compiler
+        runs = block.kind in ("console", "c2po", "csv")
+        return need or ("r2u2 or c2po" if runs and not all(self.place.programs.values()) else None)
+
     def faults(self, block: Block) -> Iterator[str]:
         """What is wrong with a block, each as a text."""
         if "file" in block.marks:
             yield from same_as_file(block, self.place.root / block.marks["file"])
             return
-        need = next((it for it in block.marks.get("needs", "").split() if not self.place.has(it)), None)
-        programs = all(self.place.programs.values())
-        if need or (not programs and block.kind in ("console", "c2po", "csv")):
-            self.skipped.append(need or "r2u2 or c2po")
-            if block.kind != "console":
-                self.spec = self.keep(block) if block.kind == "c2po" else self.spec
+        need = self.lacks(block)
+        if need:
+            if self.place.wants(need):
+                yield f'not run without {need}: "make check-embed TARGET=x86_64" builds it, and --no-library skips the block'
+            else:
+                self.skipped.append(need)
+            if block.kind == "c2po":
+                self.spec = self.keep(block)
             return
         if block.kind == "console":
             yield from run_console(block, self.folder, self.place)
@@ -309,9 +332,12 @@ def check_page(page: Path, text: str, place: Place, write: bool = False) -> List
     return found + [f"skipped: {why}" for why in session.skipped]
 
 
-def check(root: Path, texts: Dict[Path, str], write: bool = False) -> List[str]:
-    """The faults of the blocks of all pages, pages side by side; with `write` outputs are put into the pages."""
-    place = place_of(root)
+def check(root: Path, texts: Dict[Path, str], write: bool = False, library: bool = True) -> List[str]:
+    """The faults of the blocks of all pages, pages side by side; with `write` outputs are put into the pages.
+
+    Without `library` blocks are skipped that need one, where none is built.
+    """
+    place = place_of(root, library)
     with concurrent.futures.ThreadPoolExecutor(os.cpu_count() or 1) as pool:
         done = pool.map(lambda it: check_page(it[0], it[1], place, write), texts.items())
     return [fault for faults in done for fault in faults]

@@ -4,7 +4,7 @@
         for report in monitor.watch([[1, 0], [0, 1]]):
             print(report)
 
-The library is the one that the variable R2U2_LIBRARY names, otherwise the one next to this file, otherwise libr2u2.so as the
+The library is that of the variable R2U2_LIBRARY, otherwise the one next to this file, otherwise libr2u2.so as the
 system finds it. Rows are sequences of integers, or buffers of 64-bit integers such as array("q") and numpy's int64, which
 aren't copied.
 """
@@ -251,7 +251,7 @@ class Monitor:
             yield from self.reports(runs)
 
     def table(self, rows: Iterable[Row]) -> Table:
-        """Takes all rows, and returns the words of each output from time 0 on, by name."""
+        """Takes all rows, and returns each output's words from time 0 on, by name."""
         words = Table((name, []) for name in self.names)
         for row in rows:
             self.row(row)

@@ -7,7 +7,7 @@
 
 enum { MOST_PROGRAM = 16777216, MOST_LINE = 65535, MOST_COLUMNS = 65536 };
 
-/* What a field that isn't a whole number, or is too large for one, is handed over as: no column that is read holds these,
+/* What a field that isn't an integer, or is too large for one, is handed over as: no column that is read holds these,
  * and any other column may hold anything. */
 static const int64_t NO_NUMBER = INT64_MAX, TOO_LARGE = INT64_MAX - 1;
 
@@ -17,7 +17,7 @@ static uint8_t program[MOST_PROGRAM + 1];
 static char line[MOST_LINE + 1];
 static int64_t numbers[MOST_COLUMNS];
 
-/* Reads a file, and tells the number of its bytes; none where it can't be read. */
+/* Reads a file, and returns the number of its bytes; none where it can't be read. */
 static size_t read_program(const char *name) {
     FILE *file = fopen(name, "rb");
     size_t count = file ? fread(program, 1, sizeof program, file) : 0;
@@ -63,7 +63,7 @@ static int64_t number_of(const char *from, const char *end) {
     return is_below && number != TOO_LARGE ? -number : number;
 }
 
-/* Reads the fields of the line, at most `width`, and tells how many there are. */
+/* Reads the fields of the line, at most `width`, and returns how many there are. */
 static size_t read_row(size_t count, size_t width) {
     const char *from = line, *end = line + count;
     size_t fields = 0;

@@ -1,5 +1,5 @@
 #!/usr/bin/env python3
-"""Makes the logs of the three missions, with the faults that their pages tell of.
+"""Makes the logs of the three missions, with the faults that their pages name.
 
 usage: logs.py [FOLDER]
 
@@ -13,7 +13,7 @@ from pathlib import Path
 
 
 class Noise:
-    """Small whole numbers from a seed."""
+    """Small integers from a seed."""
 
     def __init__(self, seed):
         self.source = random.Random(seed)
@@ -35,7 +35,7 @@ def write(path, rows):
 LOST = 20  # a reading of the voltage is lost
 STUCK = range(65, 90)  # the panels' relay is stuck, so nothing charges in the sun
 LEFT_ON = range(110, 155)  # the payload isn't put off for the shadow
-SLOW = 5  # the payload goes off so many rows after the alarm
+SLOW = 5  # how many rows after the alarm the payload goes off
 LOOSE = range(190, 206)  # the thermostat's contact is loose
 
 
@@ -78,7 +78,7 @@ SINGLE = {
     "ack": (35, 43, 48, 95, 145, 155, 159, 196),
     "refused": (39,),
 }
-SILENT = range(72, 82)  # the computer starts anew
+SILENT = range(72, 82)  # the computer restarts
 
 
 def safe_mode():
@@ -97,10 +97,10 @@ def safe_mode():
 SLEWS = (range(20, 32), range(80, 96), range(150, 166), range(200, 210))
 EXPOSURES = (range(5, 16), range(40, 49), range(98, 105), range(122, 128), range(186, 196), range(220, 234))
 DRIFT = range(50, 75)  # tracker 2 drifts, and is put out at the end
-BLIND = range(110, 118)  # the sun stands before trackers 1 and 3
+BLIND = range(110, 118)  # the sun is before trackers 1 and 3
 STOPPED = 130  # wheel 3 stops, and wheel 1 takes its work
 UNLOADS = range(180, 190)  # wheel 1 is slowed down by the magnets, late
-RESET = range(172, 177)  # wheel 4 starts anew
+RESET = range(172, 177)  # wheel 4 restarts
 
 
 def errors(noise):

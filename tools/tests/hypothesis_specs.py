@@ -60,7 +60,7 @@ def quantified(draw, depth, past):
 
 @st.composite
 def formulas(draw, depth, past, members=()):
-    """A formula with at most so many operators in one another."""
+    """A formula with at most `depth` operators in one another."""
     kind = draw(st.integers(0, 12)) if depth else 0
     if kind < 2:
         return draw(atoms(members))

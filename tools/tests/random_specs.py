@@ -23,7 +23,7 @@ def atom(dice, simple):
 
 
 def formula(dice, depth, past, simple):
-    """A formula with so many operators in one another at most."""
+    """A formula with at most `depth` operators in one another."""
     if depth == 0 or dice.random() < 0.1:
         return atom(dice, simple)
     inner = [formula(dice, depth - 1, past, simple) for _ in range(2)]
@@ -38,7 +38,7 @@ def formula(dice, depth, past, simple):
 
 
 def spec(dice, simple=False):
-    """One output `f`, now and then a contract or one that uses a definition; a simple one has no constant and no order."""
+    """One output `f`, now and then a contract or over a definition; a simple one has no constant and no order."""
     past = dice.random() < 0.35
     text, body = INPUTS, formula(dice, dice.randint(1, 4), past, simple)
     if dice.random() < 0.25:

@@ -12,14 +12,14 @@ ROOT = Path(__file__).resolve().parent.parent.parent
 TOOLS = ROOT / "tools"
 DEV = ROOT / "dev"
 sys.path.insert(0, str(TOOLS / "lib"))
-# How many seconds a test waits for what comes within one or two where no other work runs beside.
+# How many seconds a test waits for what comes within one or two where no other work runs.
 PATIENCE = 150
 # Whether dev/coverage measures: tools take several times longer then.
 MEASURED = "COVERAGE_PROCESS_START" in os.environ
 
 
 def program(name):
-    """The path of r2u2 or c2po; a test that asks for one that isn't there is skipped."""
+    """The path of r2u2 or c2po; without it the test that asks for it is skipped."""
     path = os.environ.get(name.upper()) or str(ROOT / "build" / name)
     if not os.access(path, os.X_OK):
         raise unittest.SkipTest(f"no {path}: make builds it, and {name.upper()} may name another")
@@ -55,13 +55,13 @@ def shell(line, **names):
 
 
 def spent():
-    """The processor's seconds of all children so far; those of the clock say little where other work runs beside."""
+    """The processor's seconds of all children so far; those of the clock say little where other work runs."""
     used = resource.getrusage(resource.RUSAGE_CHILDREN)
     return used.ru_utime + used.ru_stime
 
 
 class Case(unittest.TestCase):
-    """A case with a folder of its own, and with checks of what a tool did."""
+    """A case with a separate folder, and with checks of what a tool did."""
 
     def setUp(self):
         folder = tempfile.TemporaryDirectory()

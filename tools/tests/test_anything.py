@@ -91,7 +91,7 @@ class Anything(Case):
         __import__("xml.etree.ElementTree").etree.ElementTree.fromstring(out)
 
     def test_an_interrupt(self):
-        """What was read so far is told."""
+        """What was read so far is printed."""
         words = [sys.executable, str(TOOLS / "verdicts")]
         pipes = {"stdin": subprocess.PIPE, "stdout": subprocess.PIPE, "stderr": subprocess.PIPE}
         # a shell that runs the tests in the background ignores interrupts, and its children would too

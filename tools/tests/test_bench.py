@@ -1,4 +1,4 @@
-"""The plain monitor in C++ prints the lines of r2u2, and bench/run tells where a baseline doesn't."""
+"""The plain monitor in C++ prints the lines of r2u2, and bench/run reports where a baseline doesn't."""
 
 import random
 import subprocess

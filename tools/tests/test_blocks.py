@@ -1,4 +1,4 @@
-"""dev/lib/blocks.py: which code blocks of a page are right, over pages of its own."""
+"""dev/lib/blocks.py: which code blocks of a page are right, over small pages."""
 
 import os
 import shutil
@@ -32,9 +32,9 @@ class Blocks(unittest.TestCase):
             (self.root / name).mkdir()
         self.page = self.root / "page.md"
 
-    def faults(self, text, write=False):
+    def faults(self, text, write=False, library=True):
         self.page.write_text(text, encoding="utf-8")
-        return blocks.check(self.root, {self.page: text}, write)
+        return blocks.check(self.root, {self.page: text}, write, library)
 
     def with_programs(self):
         """Names programs that may not be there; a test of commands without them needs no more."""
@@ -88,6 +88,24 @@ class Blocks(unittest.TestCase):
     def test_skipped(self):
         self.with_programs()
         self.assertEqual(self.faults(block("$ echo b\na\n", marks=' needs="no-such-program"')), ["skipped: no-such-program"])
+
+    def test_library_left_unbuilt(self):
+        """A block is wrong, and isn't skipped, without a library that could have been built."""
+        self.with_programs()
+        text = block("$ echo b\na\n", marks=' needs="libr2u2.so"')
+        wanted = 'page.md:3: not run without libr2u2.so: "make check-embed TARGET=x86_64" builds it, and --no-library skips the block'
+        with mock.patch.object(blocks, "BUILDERS", ["true"]):
+            self.assertEqual(self.faults(text), [wanted])
+            self.assertEqual(self.faults(text, library=False), ["skipped: libr2u2.so"])
+            (self.root / "build").mkdir()
+            (self.root / "build/libr2u2.so").touch()
+            self.assertEqual(self.faults(text), ["page.md:3: $ echo b\nprints\nb"])
+            self.assertEqual(self.faults(text, library=False), ["page.md:3: $ echo b\nprints\nb"])
+        (self.root / "build/libr2u2.so").unlink()
+        with mock.patch.object(blocks, "BUILDERS", ["no-such-program"]):
+            self.assertEqual(self.faults(text), ["skipped: libr2u2.so"])
+        with mock.patch.dict(os.environ, R2U2="no-such-program"):
+            self.assertEqual(self.faults(text), ["skipped: libr2u2.so"])
 
     def test_specifications(self):
         named = mock.patch.dict(os.environ, R2U2=program("r2u2"), C2PO=program("c2po"))

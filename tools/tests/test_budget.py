@@ -7,10 +7,16 @@ import json
 import os
 import random
 import subprocess
+import sys
 import unittest
+from unittest import mock
 
 import random_specs
 from support import ROOT, Case, program, tool
+
+sys.path.insert(0, str(ROOT / "embed/python"))
+
+import r2u2
 
 SPECS = 40
 SHARED = """INPUT p, q: bool; x, y: int;
@@ -41,7 +47,7 @@ NO_LIBRARY = {"R2U2_LIBRARY": "nowhere.so"}
 
 
 def library():
-    """The path of the library; a test that asks for one that isn't there is skipped."""
+    """The path of the library; without it the test that asks for it is skipped."""
     path = os.environ.get("R2U2_LIBRARY") or str(ROOT / "build" / "libr2u2.so")
     if not os.path.isfile(path):
         raise unittest.SkipTest(f"no {path}: make python builds it, and R2U2_LIBRARY may name another")
@@ -168,7 +174,7 @@ class Limits(Case):
 
 
 class Bytes(Case):
-    """What the library answers, by the example of its check; where it isn't there, bytes are left out."""
+    """What the library returns; where it isn't there, bytes are left out."""
 
     def setUp(self):
         super().setUp()
@@ -176,16 +182,39 @@ class Bytes(Case):
         self.spec = ROOT / "examples" / "grant.c2po"
 
     def asked(self):
-        """The number that the library answers for the program of the first example."""
+        """The number that the library returns for the program of the first example."""
         raw = (ROOT / "examples" / "embed" / "grant.bin").read_bytes()
         number, fault = ctypes.c_uint64(), ctypes.create_string_buffer(112)
         self.assertEqual(ctypes.CDLL(library()).r2u2_bytes(raw, ctypes.c_size_t(len(raw)), ctypes.byref(number), fault), 0)
         return number.value
 
-    def test_what_the_library_answers(self):
+    def test_what_the_library_returns(self):
         found = self.asked()
         self.assertEqual(json.loads(tool("budget", "--json", self.spec)[1])["whole"]["bytes"], found)
         self.assertIn(f"\n{found} bytes\n", tool("budget", self.spec)[1])
+
+    def check(self, spec):
+        """Of a specification the library returns the bytes, steps, reports and delays that are printed."""
+        program_file = self.folder / "spec.obs"
+        subprocess.run([program("c2po"), "-o", str(program_file), str(spec)], check=True)
+        raw, found = program_file.read_bytes(), json.loads(tool("budget", "--json", spec)[1])
+        with mock.patch.dict(os.environ, R2U2_LIBRARY=library()), r2u2.Monitor(raw) as monitor:
+            asked = r2u2.bytes_of(raw), monitor.steps, monitor.most_reports
+            delays = list(zip(monitor.names, monitor.delays))
+        self.assertEqual(tuple(found["whole"][key] for key in ("bytes", "steps", "reports")), asked)
+        self.assertEqual([(it["name"], it["delay"]) for it in found["outputs"]], delays)
+
+    def test_what_the_library_returns_of_each_example(self):
+        library()
+        for spec in sorted((ROOT / "examples").glob("**/*.c2po")):
+            with self.subTest(spec=spec.name):
+                self.check(spec)
+
+    def test_what_the_library_returns_of_random_specifications(self):
+        library()
+        for seed in range(SPECS):
+            with self.subTest(seed=seed):
+                self.check(self.file("spec.c2po", random_specs.spec(random.Random(seed))))
 
     def test_a_limit(self):
         found = self.asked()
@@ -213,5 +242,5 @@ class Words(Case):
     def test_numbers(self):
         for option in ("--top", "--max-slots", "--max-steps", "--max-bytes"):
             for number in ("-1", "0.5", "x", "\N{SUPERSCRIPT TWO}"):
-                told = f"budget: argument {option}: {number} isn't a whole number from 0 on (--help tells more)\n"
+                told = f"budget: argument {option}: {number} isn't a whole number from 0 on (see --help)\n"
                 self.assertEqual(tool("budget", f"{option}={number}", "no.c2po"), (2, "", told))

@@ -70,7 +70,7 @@ class Faults(Case):
                 self.assertIn(f"spec.c2po:{row}:{column}: error: {message}\n  {shown}\n  {' ' * (column - 1)}^", out)
 
     def test_each_wrong_line_of_the_page(self):
-        """Each row of the page is the note of its own wrong line, before all others of its message."""
+        """Each row of the page is the note of the row's wrong line, before all others of its message."""
         lines = {row.wrong: (what, row) for what, rows in notes.rows().items() for row in rows if row.wrong}
         self.assertGreater(len(lines), 45)
         for wrong, (what, row) in lines.items():

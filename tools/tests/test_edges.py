@@ -1,4 +1,4 @@
-"""dev/edges and dev/allocations: that they find a program that does otherwise, and tell what is missing."""
+"""dev/edges and dev/allocations: that they find a program that does otherwise, and report what is missing."""
 
 from support import Case, tool
 

@@ -151,7 +151,7 @@ class Completion(Case):
             self.check(name, {it for it in self.offered(ran.stdout) if it.startswith("--")})
 
     def test_zsh(self):
-        """What zsh is told to offer; that it reads the file whole."""
+        """What zsh offers; that it reads the file whole."""
         zsh, file = needs("zsh"), COMPLETIONS / "_r2u2"
         for name in NAMES:
             line = f'_arguments() {{ print -rl -- "$@"; }}; service={name}; source {file}'

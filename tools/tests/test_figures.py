@@ -1,4 +1,4 @@
-"""dev/figures: that each measurement it names stands in its page, with a date and a command."""
+"""dev/figures: that each measurement it names is in its page, with a date and a command."""
 
 import re
 import subprocess

@@ -1,4 +1,4 @@
-"""dev/floors: that it accepts this repository's edges, and finds one that breaks the rule."""
+"""dev/floors: that it accepts this repository's edges, and finds an edge that breaks the rule."""
 
 import shutil
 

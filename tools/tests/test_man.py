@@ -1,4 +1,4 @@
-"""Each option of a tool stands in its man page, and each option of the page is one of the tool."""
+"""Each option of a tool is in its man page, and each option of the page is one of the tool."""
 
 import re
 
@@ -29,6 +29,13 @@ class Man(Case):
                 self.assertEqual(len(re.findall(rf"\b{name} ", forms)), synopsis.count(".Nm"))
                 told = {f"-{word}" for word in re.findall(r"Fl (-?[a-z][-a-z]*)", synopsis)}
                 self.assertEqual(set(re.findall(r"(?<!\S)\[?(--?[a-z][-a-z]*)", forms)), told)
+
+    def test_examples(self):
+        """Each help and each page has an example of the tool."""
+        for name, page in self.pages():
+            with self.subTest(name):
+                self.assertRegex(tool(name, "--help")[1], rf"(?m)^(?:example: |  \$ ).*\b{name} ")
+                self.assertIn(f"r2u2-{name} ", page.read_text(encoding="utf-8").partition(".Sh EXAMPLES")[2].partition(".Sh ")[0])
 
     def test_groff_takes_them(self):
         if shell("command -v groff")[0]:

@@ -1,4 +1,4 @@
-"""The colours of pictures and pages: they stand in one table, and texts are legible on both screens."""
+"""The colours of pictures and pages: they are in one table, and texts are legible on both screens."""
 
 import re
 import unittest

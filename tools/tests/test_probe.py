@@ -97,7 +97,7 @@ class Probe(Case):
         self.assertIs(found["aborted"]["tried"], False)
 
     def test_parts_of_structs_that_a_requirement_does_not_read(self):
-        """Changes there aren't changes of the requirement: neither counted, nor told as unnoticed or unused."""
+        """Changes there aren't changes of the requirement: neither counted, nor printed as unnoticed or unused."""
         spec = self.file("structs.c2po", (
             "STRUCT Heater: { hot: bool; cold: bool; };\nINPUT t, u: int;\nDEFINE icy := u < 5; one := Heater(t > 90, icy);\n"
             "  both := {one, Heater(u > 80, t < 6)};\nFTSPEC f: !one.hot; g: foreach(h: both)(!h.cold); whole: !one.hot && !one.cold;\n"
@@ -111,7 +111,7 @@ class Probe(Case):
         self.assertIn("u < 5", {it["old"] for it in found["whole"]["unnoticed"]})
 
     def test_margins_are_those_of_r2u2(self):
-        """With the last value that holds no verdict is false; with the first one that doesn't, one is."""
+        """With the last value that holds no verdict is false; with the first one past it, one is."""
         for holds, fails in ((350, 349),):
             for value, false in ((holds, False), (fails, True)):
                 path = self.file("other.c2po", LANDER.replace("-400;", f"-{value};", 1))

@@ -57,7 +57,7 @@ class Proofs(Case):
     def test_a_name_that_is_no_program(self):
         for name in ("low", "nothing"):
             status, out, errors = self.prove(name)
-            self.assertEqual((status, out, errors), (1, "", f"prove: no program {name} stands in crates.txt\n"))
+            self.assertEqual((status, out, errors), (1, "", f"prove: no program {name} is in crates.txt\n"))
 
     def test_no_kit(self):
         tools = f"{os.path.dirname(shutil.which('python3'))}:/usr/bin:/bin"

@@ -32,7 +32,7 @@ def tree_of(path):
 
 
 def program(*names):
-    """A checker of the machine; a test that asks for one that isn't there is skipped."""
+    """A checker of the machine; without it the test that asks for it is skipped."""
     found = next((path for path in map(shutil.which, names) if path), None)
     if found is None:
         raise unittest.SkipTest(f"no {names[0]}: apt-get install {names[0]}")
@@ -50,7 +50,7 @@ def python_3_9():
 
 
 def origin_of(name):
-    """Where a module stands."""
+    """The place of a module."""
     found = importlib.util.find_spec(name)
     return found.origin if found else "nowhere"
 
@@ -68,7 +68,7 @@ class Python(Case):
             tree_of(path)
 
     def test_the_standard_library_is_enough(self):
-        """Each module that is imported is one of the tools' own, or stands in the library's folder."""
+        """Each module that is imported is one of the tools' own, or in the library's folder."""
         names = set()
         for path in [*SCRIPTS, *LIBRARY]:
             for node in ast.walk(tree_of(path)):
@@ -78,7 +78,7 @@ class Python(Case):
         for name in names - {"r2u2tools"}:
             origin = origin_of(name)
             own = origin in ("built-in", "frozen") or origin.startswith(folders) and "-packages" not in origin
-            self.assertTrue(own, f"{name} stands in {origin}")
+            self.assertTrue(own, f"{name} is in {origin}")
 
     def test_no_name_is_newer_than_3_9(self):
         for path in [*SCRIPTS, *LIBRARY]:

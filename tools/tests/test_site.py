@@ -62,7 +62,7 @@ class Browser:
         self.wait("document.readyState == 'complete' && location.href.startsWith(%s)" % json.dumps(address.partition("?")[0]))
 
     def wait(self, expression):
-        """The value of an expression once it is one that counts as true; the last one where that takes too long."""
+        """The value of an expression once it counts as true; the last one where that takes too long."""
         end = time.monotonic() + SECONDS
         while True:
             value = self.value(expression)

@@ -76,23 +76,23 @@ class Notations(Telemetry):
     def test_decimal_comma(self):
         self.assertEqual(self.made("t;v\n0,5;3,25\n1,5;-0,75\n", "--decimal-comma", "--scale", "v=4", "--time", "t", "--rate", "1"), "# v\n13\n-3\n")
         self.assertEqual(self.made('v,w\n"3,5",1\n', "--decimal-comma", "--delimiter", ",", "--scale", "v=2"), "# v,w\n7,1\n")
-        self.assertIn("'1.234' is no number", self.refused("v;w\n1.234;1\n", "--decimal-comma"))
+        self.assertIn("'1.234' isn't a number", self.refused("v;w\n1.234;1\n", "--decimal-comma"))
 
     def test_hexadecimal(self):
         self.assertEqual(self.made("a,b\n0x1F,ff\n0X10,00\n", "--hex", "a", "--hex", "b"), "# a,b\n31,255\n16,0\n")
         self.assertEqual(self.made("a\n10\n", "--hex", "a"), "# a\n16\n")
-        self.assertIn("'0xg' is no number", self.refused("a\n0xg\n", "--hex", "a"))
+        self.assertIn("'0xg' isn't a number", self.refused("a\n0xg\n", "--hex", "a"))
         self.assertIn("out of range", self.refused("a\nffffffff\n", "--hex", "a"))
 
     def test_preamble_and_comments(self):
         text = "Log of 1 May\nunit: V\na,b\n# a remark\n1,2\n\n# more\n3,4\n"
         self.assertEqual(self.made(text, "--skip", "2", "--comment", "#"), "# a,b\n1,2\n3,4\n")
-        self.assertEqual(self.refused("x\na\n1\nz\n", "--skip", "1"), "line 4, column 1 (a): 'z' is no number")
+        self.assertEqual(self.refused("x\na\n1\nz\n", "--skip", "1"), "line 4, column 1 (a): 'z' isn't a number")
 
     def test_missing(self):
         text = "t,a,b\n0,1,5\n1,,NaN\n2,n/a,7\n"
         self.assertIn("line 3, column 2 (a): an empty field", self.refused(text))
-        self.assertIn("'NaN' is no number", self.refused(text, "--hold"))
+        self.assertIn("'NaN' isn't a number", self.refused(text, "--hold"))
         self.assertEqual(self.made(text, "--missing", "hold"), "# t,a,b\n0,1,5\n1,1,5\n2,1,7\n")
         self.assertEqual(self.made(text, "--missing", "a=-1", "--missing", "b=hold"), "# t,a,b\n0,1,5\n1,-1,5\n2,-1,7\n")
         self.assertEqual(self.made(text, "--missing", "9", "--missing", "b=hold"), "# t,a,b\n0,1,5\n1,9,5\n2,9,7\n")
@@ -129,7 +129,7 @@ class Lists(Telemetry):
 
     def test_faults(self):
         self.assertEqual(self.refused("t,n,v\n0,alt\n", *self.WORDS, "--columns", "alt"), "line 2: 2 fields, where 3 columns have names")
-        self.assertEqual(self.refused("t,n,v\n0,alt,x\n", *self.WORDS, "--columns", "alt"), "line 2 (alt): 'x' is no number")
+        self.assertEqual(self.refused("t,n,v\n0,alt,x\n", *self.WORDS, "--columns", "alt"), "line 2 (alt): 'x' isn't a number")
         self.assertEqual(self.refused("t,n\n0,alt\n", *self.WORDS, "--columns", "alt"), "line 1: no column v (it has t, n)")
         self.refused("t,n,v\n", *self.WORDS, status=2)
 
@@ -184,8 +184,8 @@ class Objects(Telemetry):
 
     def test_faults(self):
         for text, said in (
-            ("[1]\n", "line 1: '[1]' isn't an object"), ("{\n", "line 1: no JSON: "), ("", "no object"), ('{"a": NaN}\n', "line 1, column 1 (a): 'NaN' is no number"),
-            ('{"a": 1}\n' + "[" * 100000 + "\n", "line 2: no JSON: "), ('{"a": 1}\n{"b": 1}\n', "line 2, column 1 (a): an empty field"),
+            ("[1]\n", "line 1: '[1]' isn't an object"), ("{\n", "line 1: not JSON: "), ("", "no object"), ('{"a": NaN}\n', "line 1, column 1 (a): 'NaN' isn't a number"),
+            ('{"a": 1}\n' + "[" * 100000 + "\n", "line 2: not JSON: "), ('{"a": 1}\n{"b": 1}\n', "line 2, column 1 (a): an empty field"),
         ):
             self.assertIn(said, self.refused(text, name="x.json"))
 
@@ -232,7 +232,7 @@ class Files(Telemetry):
         one, two = self.file("one.csv", "t,a\n0,1\n1,x\n"), self.file("two.csv", "t,b\n0,1\n")
         words = ["--time", "t", "--rate", "1"]
         status, _, errors = tool("trace", *words, one, two)
-        self.assertEqual((status, errors), (1, f"trace: line 3 of {one} (a): 'x' is no number\n"))
+        self.assertEqual((status, errors), (1, f"trace: line 3 of {one} (a): 'x' isn't a number\n"))
         status, _, errors = tool("trace", *words, two, self.file("three.csv", "s,c\n0,1\n"))
         self.assertEqual((status, errors), (1, f"trace: {self.folder}/three.csv: no column t, asked for by --time\n"))
         self.assertEqual(tool("trace", one, two)[0], 2)

@@ -55,7 +55,7 @@ class Squares(Pictures):
         )
 
     def test_marks(self):
-        """A line from each time to the row that told it, and a dot at rows 1 and 5."""
+        """A line from each time to the row that decided it, and a dot at rows 1 and 5."""
         root = ElementTree.fromstring(self.made(*GRANT, give=TICKS))
         dots = [float(dot.get("cx")) for dot in root.iter(f"{SVG}circle")][:2]
         lines = next(path.get("d") for path in root.iter(f"{SVG}path") if path.get("d").count("M") == 6)
@@ -73,7 +73,7 @@ class Squares(Pictures):
         self.assertIn("undecided", texts)
 
     def test_numbers(self):
-        """A column of an int is told in numbers, also where they are 0 and 1, and whole."""
+        """A column of an int is shown in numbers, also where they are 0 and 1, and whole."""
         spec = self.file("spec", "INPUT x, y: int; FTSPEC f: x > y;")
         trace = self.file("trace", "0,-2147483648\n1,7\n")
         texts = self.texts("--spec", spec, "--trace", trace, give="f:0,T\n")
@@ -172,10 +172,10 @@ class Quick(Pictures):
             (["none.lines"], "", "cannot open none.lines: No such file or directory"),
             ([], "f;1\n", "line 1: not a verdict line: f;1"),
             ([], "", "no row and no verdict to show"),
-            (["--from", "x"], "", "argument --from: x isn't a whole number from 0 on (--help tells more)"),
-            (["--from", "3", "--to", "2"], "", "--to is before --from (--help tells more)"),
+            (["--from", "x"], "", "argument --from: x isn't a whole number from 0 on (see --help)"),
+            (["--from", "3", "--to", "2"], "", "--to is before --from (see --help)"),
             (["-o", "no/such/file"], "f:0,T\n", "cannot write no/such/file: No such file or directory"),
-            (["--"], "", "no command after -- (--help tells more)"),
+            (["--"], "", "no command after -- (see --help)"),
             (["--trace", str(self.file("t", "1\n")), "--", "r2u2", "x"], "", None),
             (["--", "cat", "x"], "", None),
             (["--trace", str(self.file("t2", "# a,b\n1\n"))], "", f"{self.folder}/t2: line 2: too few fields"),
@@ -217,7 +217,7 @@ class Page(Pictures):
         return chromium.Page(self, f"file://{path}{place}").run("document.documentElement.outerHTML")
 
     def told(self, document):
-        """What the page tells of the row under the pointer, without marks."""
+        """What the page says of the row under the pointer, without marks."""
         return re.sub(r"<[^>]*>", " ", re.search(r'id="told"[^>]*>(.*?)</div>', document)[1]).split()
 
     def ready(self, path):
@@ -229,8 +229,8 @@ class Page(Pictures):
         chromium.path()
         path = self.file("page.html", self.made("--html", *GRANT, give=TICKS))
         document = self.opened(path, "#find=granted")
-        self.assertEqual(self.told(document), "row 2 request 1 grant 0 granted F, told with 5 (+3)".split())
-        self.assertEqual(self.told(self.opened(path, "#row=1"))[-5:], "granted T, told at once".split())
+        self.assertEqual(self.told(document), "row 2 request 1 grant 0 granted F, decided with 5 (+3)".split())
+        self.assertEqual(self.told(self.opened(path, "#row=1"))[-5:], "granted T, decided at once".split())
         self.assertEqual(self.told(self.opened(path, "#row=3&find=granted")), "no F after this".split())
         self.assertIn("granted: request -&gt; F[0,3] grant", document)
 

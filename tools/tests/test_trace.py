@@ -60,7 +60,7 @@ class Fields(Traces):
     def test_map(self):
         words = ["--map", "mode=SAFE:0,NOMINAL:1,a:b:2"]
         self.assertEqual(self.made("mode\nSAFE\nNOMINAL\na:b\n", *words), "# mode\n0\n1\n2\n")
-        self.assertEqual(self.refused("x,mode\n1,OFF\n", *words), "line 2, column 2 (mode): 'OFF' stands in no --map of the column")
+        self.assertEqual(self.refused("x,mode\n1,OFF\n", *words), "line 2, column 2 (mode): 'OFF' is in no --map of the column")
 
     def test_round(self):
         path = self.file("in.csv", "a,b\n0.5,1\n-0.5,1\n2.4,1\n3,1\n")
@@ -79,14 +79,14 @@ class Refusals(Traces):
         for field, why in (
             ("1.5", "1.5 isn't whole: --scale or --round"),
             ("2147483648", "2147483648 is out of range: a number has 32 bits"),
-            ("0x1f", "'0x1f' is no number"),
-            ("nan", "'nan' is no number"),
+            ("0x1f", "'0x1f' isn't a number"),
+            ("nan", "'nan' isn't a number"),
             ("1,5", None),
             ("1e99", "1" + "0" * 99 + " is out of range: a number has 32 bits"),
-            ("1e9999", "'1e9999' is no number"),
+            ("1e9999", "'1e9999' isn't a number"),
             ("", "an empty field: --hold takes the last value"),
-            ("3 4", "'3 4' is no number"),
-            ("9" * 500, "'" + "9" * 40 + "...' is no number"),
+            ("3 4", "'3 4' isn't a number"),
+            ("9" * 500, "'" + "9" * 40 + "...' isn't a number"),
         ):
             if why:
                 self.assertEqual(self.refused(f"x,a\n1,1\n1,{field}\n"), f"line 3, column 2 (a): {why}")
@@ -95,13 +95,13 @@ class Refusals(Traces):
 
     def test_kinds(self):
         spec = self.file("spec", SPEC)
-        self.assertEqual(self.refused("on,volts\n2,1\n", "--spec", spec), "line 2, column 1 (on): 2 is no truth: the input is bool")
-        self.assertEqual(self.refused("on,volts\n1,true\n", "--spec", spec), "line 2, column 2 (volts): 'true' is no number: the input is int")
+        self.assertEqual(self.refused("on,volts\n2,1\n", "--spec", spec), "line 2, column 1 (on): 2 isn't a Boolean: the input is bool")
+        self.assertEqual(self.refused("on,volts\n1,true\n", "--spec", spec), "line 2, column 2 (volts): 'true' isn't a number: the input is int")
 
     def test_lines(self):
         self.assertEqual(self.refused("a,b\n1,2\n1\n"), "line 3: 1 fields, where 2 columns have names")
         self.assertEqual(self.refused('a,b\n1,2\n1,"x\n'), "line 3: unexpected end of data")
-        self.assertEqual(self.refused('a,b\n"1\n",2\n1,x\n'), "line 4, column 2 (b): 'x' is no number")
+        self.assertEqual(self.refused('a,b\n"1\n",2\n1,x\n'), "line 4, column 2 (b): 'x' isn't a number")
         self.assertEqual(self.refused(b"a\n1\n\xff\n"), "line 3, byte 1: not UTF-8")
         self.assertEqual(self.refused("a\n1\n".encode("utf-16")), "line 1: a text of 16 bits a letter: make it UTF-8 first")
         self.assertEqual(self.refused(""), "no line with the names of the columns")
@@ -180,7 +180,7 @@ class Times(Traces):
         status, out, errors = tool("trace", *self.WORDS, "--hold", path)
         self.assertEqual((status, out), (0, "# a,b\n1,5\n2,6\n2,6\n4,6\n"))
         late = "trace: 3 times between two rows: they count from the next row on\n"
-        self.assertEqual(errors, late + "trace: 1 line stands in no row, as a later one has it; the first is line 3\n")
+        self.assertEqual(errors, late + "trace: 1 line is in no row, as a later one has it; the first is line 3\n")
         self.assertEqual(tool("trace", *self.WORDS, "--hold", "--stamps", path)[1], "# a,b\n@0,1,5\n@1,2,6\n@3,4,6\n")
 
     def told_of(self, text, *words):

@@ -50,7 +50,7 @@ class Traces(Case):
         self.assertEqual([column.at(k) for k in range(6)], ["1", "1", "0", "0", "1", None])
 
     def test_columns_are_their_fields(self):
-        """Each column and each stretch of it, over rows at random, has the fields that stand there."""
+        """Each column and each stretch of it, over rows at random, has the fields that are there."""
         dice = random.Random(0)
         for _ in range(30):
             rows = [[str(dice.randint(0, 1)), str(dice.randint(0, 3) // 3), "7"] for _ in range(dice.randint(1, 30))]
@@ -111,7 +111,7 @@ class Traces(Case):
 
 class VerdictLines(Case):
     def outcome(self, text, read):
-        """What lines tell of each output, or what is wrong with them."""
+        """What lines say of each output, or what is wrong with them."""
         found = {}
         try:
             for name, times, words in read(Reader("x"), io.BytesIO(text)):

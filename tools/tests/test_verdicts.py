@@ -116,7 +116,7 @@ class Faults(Case):
 
     def test_lines(self):
         self.assertEqual(self.told(give="f:0,T\nf=1\n"), "verdicts: line 2: not a verdict line: f=1\n")
-        self.assertEqual(self.told(give="f:1,T\nf:1,T\n"), "verdicts: line 2: time 1 of f is told twice\n")
+        self.assertEqual(self.told(give="f:1,T\nf:1,T\n"), "verdicts: line 2: time 1 of f comes twice\n")
         self.assertEqual(self.told(give="f:0,T\n\n"), "verdicts: line 2: not a verdict line: an empty line\n")
         self.assertEqual(self.told(give="x" * 1000000), "verdicts: line 1: longer than 128 bytes\n")
 
@@ -124,7 +124,7 @@ class Faults(Case):
         self.assertEqual(self.told(self.folder / "no"), f"verdicts: cannot open {self.folder}/no: No such file or directory\n")
         self.assertEqual(self.told(self.folder), f"verdicts: cannot open {self.folder}: Is a directory\n")
         path = self.file("lines", "f:0,T\nf:0,F\n")
-        self.assertEqual(self.told(path), f"verdicts: {path} line 2: time 0 of f is told twice\n")
+        self.assertEqual(self.told(path), f"verdicts: {path} line 2: time 0 of f comes twice\n")
 
     def test_words(self):
         for words in (["--nonsense"], ["--"], ["--merge"], ["a", "b"], ["--diff", "a", "--json"], ["--json", "--junit"]):
@@ -202,7 +202,7 @@ class Diff(Case):
         return tool("verdicts", "--diff", self.file("two", two), self.file("one", one))
 
     def test_the_same(self):
-        self.assertEqual(self.told(GRANTED + AGC, AGC + RUNS), (0, "both tell the same\n", ""))
+        self.assertEqual(self.told(GRANTED + AGC, AGC + RUNS), (0, "both have the same verdicts\n", ""))
 
     def test_parting(self):
         status, out, _ = self.told("f:2,T\nf:5,F\ng:3,T\n", "g:1,T\nf:0,T\nf:3,F\nf:8,T\n")

@@ -1,4 +1,4 @@
-"""The version stands in the file VERSION, and what repeats it agrees; and an archive without a kit."""
+"""The version is in the file VERSION, and what repeats it agrees; and an archive without a kit."""
 
 import os
 

@@ -19,7 +19,7 @@ GRANT = EXAMPLES / "grant.c2po", EXAMPLES / "grant.csv"
 
 
 def verdicts(spec, trace):
-    """The words of each output by time, as r2u2 tells them."""
+    """The words of each output by time, as r2u2 prints them."""
     words = [program("r2u2"), "--source", str(spec), str(trace)]
     out = subprocess.run(words, stdout=subprocess.PIPE, check=True, encoding="ascii").stdout
     found = {}
@@ -31,7 +31,7 @@ def verdicts(spec, trace):
 
 
 class Watched:
-    """A specification over rows, in a folder of its own."""
+    """A specification over rows, in a separate folder."""
 
     def __init__(self, folder, text, signals, rows):
         self.folder, self.signals, self.rows = folder, signals, rows
@@ -69,7 +69,7 @@ class Deciding(Case):
     """Over other cells the verdict stays; an open one depends on the cells that it waits for alone."""
 
     def check(self, watched, dice, name, time):
-        """Checks one verdict; whether it was told."""
+        """Checks one verdict; whether it was printed."""
         reasons = watched.reasons(name, time)
         what = (watched.spec.read_text(), watched.rows, name, time)
         self.assertEqual(reasons.word, watched.word(name, time), what)

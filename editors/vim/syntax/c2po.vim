@@ -8,7 +8,7 @@ endif
 syntax case match
 setlocal commentstring=--\ %s
 
-" Longer signs stand after shorter ones, since the last item that fits counts.
+" Longer signs come after shorter ones, since the last item that fits counts.
 syntax match c2poOperator '[-+*/%<>!.]'
 syntax match c2poOperator '->\|=>\|:=\|==\|!=\|<=\|>=\|&&\|||'
 syntax match c2poOperator '<->'

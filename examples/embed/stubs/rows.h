@@ -1,4 +1,4 @@
-/* The rows of the first example, for the stand-ins of this folder. */
+/* The rows of the first example, for the stubs of this folder. */
 #ifndef ROWS_H
 #define ROWS_H
 

@@ -76,7 +76,7 @@ class Costs:
         return max(self.all[place].worst for place in self.roots[name])
 
     def reports(self, name: str) -> int:
-        """The most reports of an output in one row, as `most_over` states them over the delays of what it tells."""
+        """The most reports of an output in one row, as `most_over` states them over the delays of what it reports."""
         return self.delay(name) - self.all[self.roots[name][0]].best + 1
 
     def steps(self, places: Iterable[Place]) -> int:
@@ -97,7 +97,7 @@ class Costs:
         return self.refs[place]
 
     def operators(self) -> list[Place]:
-        """The places of instructions with a line of their own in the text, but those of whole numbers."""
+        """The places of instructions that have a line in the text, but those of integers."""
         return [place for place, it in self.all.items() if it.op not in NO_LINE and self.shown.is_truth(self.refs[place])]
 
     def costliest(self, count: int) -> list[Place]:

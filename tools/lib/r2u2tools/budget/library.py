@@ -22,7 +22,7 @@ class _Fault(ctypes.Structure):
 
 
 def path() -> str:
-    """The file that R2U2_LIBRARY names, else the one in build/, or of installed tools the one that was installed with them."""
+    """The file of R2U2_LIBRARY, else that of build/, or of installed tools that of the same prefix."""
     return os.environ.get("R2U2_LIBRARY") or str(OWN)
 
 

@@ -1,7 +1,7 @@
 """The layout of a specification: one way to set blanks, with the author's lines and comments.
 
 Lines stay where the author broke them. What is set is the blanks between tokens,
-how far items stand in, and empty lines: one at most, and none at either end.
+how far items are indented, and empty lines: one at most, and none at either end.
 """
 
 from typing import List, Optional, Union

@@ -1,4 +1,4 @@
-"""How the tools tell what is wrong: one line on the error output, and a status."""
+"""How the tools say what is wrong: one line on the error output, and a status."""
 
 from __future__ import annotations
 
@@ -52,10 +52,10 @@ def note(text: object) -> None:
 
 
 class Words(argparse.ArgumentParser):
-    """A reader of the command line that tells a fault in one line."""
+    """A reader of the command line that prints a fault in one line."""
 
     def error(self, message: str) -> NoReturn:
-        note(f"{message} (--help tells more)")
+        note(f"{message} (see --help)")
         sys.exit(TROUBLE)
 
     def _print_message(self, message: str, file: Any = None) -> None:
@@ -83,7 +83,7 @@ def words(doc: Optional[str], **more: Any) -> Words:
 
 
 def count(text: str) -> int:
-    """A number among the words."""
+    """A number among the arguments."""
     if not re.fullmatch(r"[0-9]+", text):
         raise argparse.ArgumentTypeError(f"{text} isn't a whole number from 0 on")
     return int(text)

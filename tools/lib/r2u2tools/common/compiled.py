@@ -45,7 +45,7 @@ def text_of(path: FilePath) -> ProgramText:
 
 
 def make(spec: FilePath, out: FilePath, *words: str) -> None:
-    """Compiles a specification; what c2po says of it is told as it is."""
+    """Compiles a specification; what c2po says of it is printed as it is."""
     status, _, text = ran([program("c2po"), *words, "-o", str(out), str(spec)])
     if status:
         raise Trouble(text.removeprefix("c2po: ") if text else f"c2po ended with status {status}")
@@ -247,7 +247,7 @@ def arguments(read: list[Token]) -> list[list[Token]]:
 
 
 def member(text: str, read: list[Token], members: dict[str, str]) -> str:
-    """A member of a set as it can stand in the place of a name."""
+    """A member of a set as it can take the place of a name."""
     tree, written = tree_of(read), with_members(text, read, members)
     is_number = tree and tree.op == "-" and len(tree.parts) == 1 and not tree.parts[0].parts
     return written if is_number or tree and tree.op in ("", "(") else f"({written})"

@@ -1,4 +1,4 @@
-"""A run of r2u2, or of any command that prints verdict lines: its words, and how it ends."""
+"""A run of r2u2, or of any command that prints verdict lines: its arguments, and how it ends."""
 
 from __future__ import annotations
 
@@ -106,7 +106,7 @@ class Command:
 
 
 def end(child: subprocess.Popen[bytes]) -> None:
-    """Ends a command that is no longer needed, by force where it doesn't end by itself."""
+    """Ends a command that isn't needed any more, by force where it doesn't end by itself."""
     child.terminate()
     try:
         child.wait(GRACE)

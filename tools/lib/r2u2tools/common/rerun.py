@@ -13,7 +13,7 @@ TOLD = ("FTSPEC", "PTSPEC")
 
 
 def as_text(path: str, doing: str) -> tuple[Spec, Spec]:
-    """A specification as it stands, or the text of a compiled program, and what was read."""
+    """A specification as it is, or the text of a compiled program, and what was read."""
     given = read_spec(path)
     if not given.is_program():
         return given, given

@@ -13,7 +13,7 @@ class Readable(Protocol):
     """What bytes are read from: a file, a pipe, or what passes one on."""
 
     def read(self, size: int, /) -> bytes:
-        """Up to so many bytes; none at the end."""
+        """Up to `size` bytes; none at the end."""
 
 
 def blocks_of(file: Readable, longest: int) -> Iterator[tuple[int, bytes]]:

@@ -35,7 +35,7 @@ class Runs:
         self.values: Any = array("Q") if whole else []
 
     def add(self, last: int, value: Any) -> None:
-        """The value of all times after those told before, up to `last`; an equal one goes on."""
+        """Adds the value of all times after those added before, up to `last`; an equal one goes on."""
         if self.values and self.values[-1] == value:
             self.lasts[-1] = last
         else:
@@ -43,7 +43,7 @@ class Runs:
             self.values.append(value)
 
     def extend(self, lasts: Sequence[int], values: Sequence[Any]) -> None:
-        """The same for many values, each up to the time that stands at its place, in as few calls as for one."""
+        """The same for many values, each up to the time at its place, in as few calls as for one."""
         if not values:
             return
         if self.values and self.values[-1] == values[0]:
@@ -195,7 +195,7 @@ class Filler:
 
 
 def places_of(names: list[str], wanted: Optional[Sequence[str]]) -> list[int]:
-    """Where the wanted columns stand; all, where none are named."""
+    """The places of the wanted columns; all, where none are named."""
     if wanted is None:
         return list(range(len(names)))
     for name in wanted:
@@ -205,7 +205,7 @@ def places_of(names: list[str], wanted: Optional[Sequence[str]]) -> list[int]:
 
 
 def filled(file: Readable, wanted: Optional[list[str]], columns: Optional[list[int]]) -> Trace:
-    """The trace of a file. `wanted` are names of columns; without a header they stand at `columns`."""
+    """The trace of a file. `wanted` are names of columns; without a header they are at `columns`."""
     trace = Trace()
     filler: Optional[Filler] = None
     for number, block in blocks_of(file, LONGEST):

@@ -1,6 +1,6 @@
 """Verdict lines of r2u2, as a stream: `NAME:TIME,WORD`.
 
-A line tells its word of all times after the line of the same output before
+A line gives its word to all times after the line of the same output before
 it, up to its own time: so both styles of r2u2 are read alike.
 """
 
@@ -66,10 +66,10 @@ class Reader:
         """What is wrong with a line."""
         if not found:
             return Trouble(f"{self.where}line {number}: not a verdict line: {shown(line)}")
-        return Trouble(f"{self.where}line {number}: time {int(found[2])} of {found[1].decode()} is told twice")
+        return Trouble(f"{self.where}line {number}: time {int(found[2])} of {found[1].decode()} comes twice")
 
     def stretches(self, file: Readable) -> Iterator[tuple[str, int, int, str]]:
-        """What each line of a file tells: the output's name, the first and the last time, and the word."""
+        """What each line of a file says: the output's name, the first and the last time, and the word."""
         return self.told(lines_of(file, LONGEST))
 
     def told(self, lines: Iterable[tuple[int, bytes]]) -> Iterator[tuple[str, int, int, str]]:
@@ -90,7 +90,7 @@ class Reader:
             yield names[raw], first, last, NAMED[word]
 
     def parts(self, file: Readable) -> Iterator[dict[str, Part]]:
-        """What the lines of a file tell, many at a time and by output, in the order in which the outputs come."""
+        """What the lines of a file say, many at a time and by output, in the order in which the outputs come."""
         for number, block in self.placed(blocks_of(file, LONGEST)):
             found = self.parts_alike(block)
             if found is None:
@@ -100,7 +100,7 @@ class Reader:
             yield found
 
     def parts_alike(self, block: bytes) -> Optional[dict[str, Part]]:
-        """The same of a block, with no call for a line; None where one isn't a verdict line, or a time is told twice."""
+        """The same of a block, with no call for a line; None where one isn't a verdict line, or a time comes twice."""
         if block.translate(None, NO_SEPARATORS) + b"\n" != b":,\n" * (block.count(b"\n") + 1):
             return None
         cells = block.translate(ONE_SEPARATOR).split(b",")

@@ -1,8 +1,8 @@
 """Specifications of C2PO 3, item by item, into this language.
 
 What reads alike in both is kept. What has another form here is rewritten; what has none, or what both might read
-differently, is left out with its line and the reason, and so is what uses it: an operator in time stands in brackets, or
-ends what stands in some. c2po has the last word on the result.
+differently, is left out with its line and the reason, and so is what uses it: an operator in time is in brackets, or
+ends what is in some. c2po has the last word on the result.
 """
 
 from __future__ import annotations
@@ -145,7 +145,7 @@ class Expression:
             raise self.unfit(f"brackets are needed: ! and then {sign}")
 
     def binary_in_time(self) -> str:
-        """Returns an operator with two operands whose place among others no two grammars need agree on: it stands alone."""
+        """Returns an operator with two operands whose place among others no two grammars need agree on: it is alone."""
         began = self.place
         text = self.prefix()
         if self.next() not in BINARY:

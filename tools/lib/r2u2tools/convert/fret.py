@@ -23,7 +23,7 @@ EQUAL = ("==", "!=")
 NUMERIC = (*EQUAL, "<", "<=", ">", ">=", "+", "-", "*", "/", "%")
 SECONDS = {"microsecond": Fraction(1, 10**6), "millisecond": Fraction(1, 1000), "second": Fraction(1), "minute": Fraction(60), "hour": Fraction(3600)}
 DURATION = re.compile(r"\b(within|for|after)\s+([0-9]+(?:\.[0-9]+)?)\s*([a-z]+?)s?\b", re.I)
-# Of each kind of condition the words that begin it, and the fields of the JSON that have its text.
+# Of each kind of condition its first words, and the fields of the JSON that have its text.
 CONDITIONS = {
     "regular": (("when", "if", "upon"), ("regular_condition", "pre_condition")),
     "holding": (("whenever",), ("holding_condition", "regular_condition", "pre_condition")),
@@ -144,7 +144,7 @@ def bracketed(tokens: list[str]) -> bool:
 
 
 def is_number(tokens: list[str], k: int) -> Optional[bool]:
-    """Returns whether a name stands next to a sign of arithmetic or a comparison, also through brackets of its own.
+    """Returns whether a name is next to a sign of arithmetic or a comparison, also through brackets around it.
 
     Next to `=` it is what the other side is: None where that is a name too.
     """

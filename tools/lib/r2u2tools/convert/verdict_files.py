@@ -13,7 +13,7 @@ from r2u2tools.common.cli import Trouble
 from r2u2tools.common.verdict_lines import Reader
 from r2u2tools.telemetry.output import Output
 
-# Of each word the value of a wire, and the text that a viewer shows beside it.
+# Of each word the value of a wire, and the text that a viewer shows next to it.
 WIRES = {"T": "1", "verified": "1", "F": "0", "invalid": "0", "inactive": "z", None: "x"}
 NANOSECONDS = 10**9
 
@@ -72,7 +72,7 @@ def to_vcd(file: IO[bytes], out: Output, names: list[str], rate: Optional[Fracti
 
 
 def to_csv(file: IO[bytes], out: Output, names: list[str], rate: Optional[Fraction]) -> None:
-    """Writes a line for each row with the words of all outputs, empty where undecided; a row is written once all have it."""
+    """Writes a line for each row with the word of each output, empty where undecided; a row is written once all have it."""
     table = Table(names)
     writer = csv.writer(out, lineterminator="\n")
     if names:

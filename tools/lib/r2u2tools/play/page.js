@@ -308,7 +308,7 @@ async function copy() {
     await navigator.clipboard.writeText(location.href);
     by("said").textContent = "the link is copied";
   } catch (fault) {
-    by("said").textContent = "the link stands in the address bar";
+    by("said").textContent = "the link is in the address bar";
   }
 }
 

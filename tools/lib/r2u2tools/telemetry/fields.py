@@ -15,7 +15,7 @@ HEX = re.compile(r"(?:0[xX])?[0-9a-fA-F]{1,16}", re.ASCII)
 NAME = re.compile(r"[^,\"\r\n#]+")
 TRUTHS = {"0": "0", "1": "1", "true": "1", "false": "0"}
 LEAST, GREATEST = -(1 << 31), (1 << 31) - 1
-# Texts that say that there is no value, in any case.
+# Texts of a missing value, in upper or lower case.
 MISSING = ("", "nan", "+nan", "-nan", "null", "none", "na", "n/a")
 RULES = ("refuse", "hold", "skip")
 COMBINED: dict[str, Optional[Callable[[int, int], int]]] = {
@@ -41,7 +41,7 @@ def pairs(option: str, given: list[str], sign: str = "=") -> Iterator[tuple[str,
 
 
 def maps(given: list[str]) -> dict[str, dict[str, str]]:
-    """Returns the numbers of the words of each column."""
+    """Returns each column's words with their numbers."""
     found: dict[str, dict[str, str]] = {}
     for name, text in pairs("--map", given):
         kept = found.setdefault(name, {})
@@ -95,7 +95,7 @@ class Column:
     def convert(self, text: str) -> str:
         if self.words is not None:
             if text not in self.words:
-                raise Unfit(f"{shown(text)} stands in no --map of the column")
+                raise Unfit(f"{shown(text)} is in no --map of the column")
             return self.words[text]
         if self.scale is None and self.kind != "bool" and not self.hex and WHOLE.fullmatch(text):
             return within(int(text))
@@ -114,14 +114,14 @@ class Column:
         value = self.value(text)
         if value is None:
             truth = self.kind == "int" and text.lower() in ("true", "false")
-            raise Unfit(f"{shown(text)} is no number" + (": the input is int" if truth else ""))
+            raise Unfit(f"{shown(text)} isn't a number" + (": the input is int" if truth else ""))
         over, under = value
         if self.scale is not None:
             over, under = over * self.scale.numerator, under * self.scale.denominator
         whole, rest = divmod(over, under)
         if self.kind == "bool":
             if rest or whole not in (0, 1):
-                raise Unfit(f"{text} is no truth: the input is bool")
+                raise Unfit(f"{text} isn't a Boolean: the input is bool")
         elif rest:
             if not self.rounds:
                 by = f" times {self.scale}" if self.scale else ""
@@ -198,7 +198,7 @@ class Columns:
             self.combined(column("--within", name), text)
 
     def missing_rules(self, given: list[str], column: Callable[[str, str], Column]) -> None:
-        """Sets what an empty field becomes: of one column, or of all that have no rule of their own."""
+        """Sets what an empty field becomes: of one column, or of all that have no other rule."""
         own = {name: rule for name, sign, rule in (text.rpartition("=") for text in given) if sign}
         every = [text for text in given if "=" not in text]
         if len(every) > 1:

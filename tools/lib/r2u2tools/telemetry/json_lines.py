@@ -42,7 +42,7 @@ class JsonLines:
                 found = json.loads(text, parse_int=str, parse_float=str, parse_constant=str)
             except (ValueError, RecursionError) as fault:
                 why = fault.msg if isinstance(fault, json.JSONDecodeError) else "nested too deeply"
-                raise Refused(f"line {number}: no JSON: {why}") from None
+                raise Refused(f"line {number}: not JSON: {why}") from None
             if not isinstance(found, dict):
                 raise Refused(f"line {number}: {shown(text.strip())} isn't an object")
             yield number, dict(flat(found))

@@ -89,7 +89,7 @@ class Timed(Rows):
         if found.start is not None:
             self.start = clock.fraction(found.start)
             if self.start is None:
-                raise Trouble(f"--start: {shown(found.start)} is no number and no date")
+                raise Trouble(f"--start: {shown(found.start)} isn't a number or a date")
         # The row that is being filled, whether it is still to be written, and what holds after it.
         self.row, self.open = -1, False
         self.held: Optional[str] = None
@@ -189,7 +189,7 @@ class Timed(Rows):
         self.open, self.held = False, self.columns.text(self.kept_line, True)
 
     def finish(self, row: int) -> None:
-        """Writes all before a row: the one that was filled, and those between, where its last values hold."""
+        """Writes all before a row: the filled one, and those between, where its last values hold."""
         self.write()
         if not self.stamps and self.held is not None:
             for _ in range(row - self.row - 1):
@@ -207,8 +207,8 @@ class Timed(Rows):
         if self.late:
             yield f"{counted(self.late, 'time')} between two rows: {'it counts' if self.late == 1 else 'they count'} from the next row on"
         if self.replaced:
-            one = "stands in no row, as a later one has it"
-            verb = one if self.replaced == 1 else "stand in no row, as later ones have theirs"
+            one = "is in no row, as a later one has it"
+            verb = one if self.replaced == 1 else "are in no row, as later ones have theirs"
             yield f"{counted(self.replaced, 'line')} {verb}; the first is line {self.first_replaced}"
         if self.stamps and self.row >= DEFAULT_TIMES:
             yield f"the last time is {self.row}: r2u2 --timed needs --mission-time {self.row + 1}"

@@ -1,4 +1,4 @@
-"""The timeline as one page that needs nothing else: its data stand in it as runs, packed to few bytes."""
+"""The timeline as one page that needs nothing else: its data are in it as runs, packed to few bytes."""
 
 from __future__ import annotations
 

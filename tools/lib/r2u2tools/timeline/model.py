@@ -37,7 +37,7 @@ class Watched:
 
 @dataclass
 class Lane:
-    """One output: its words by time, and of each time the row with which the word was printed."""
+    """One output: the word of each time, and of each time the row with which the word was printed."""
 
     name: str
     words: Any = field(default_factory=Runs)
@@ -127,7 +127,7 @@ def take_trace(model: Model, path: str, signals: Optional[list[Any]], every: boo
 
 
 def take_lines(model: Model, file: Any, what: str = "", ticks: Optional[str] = None) -> None:
-    """Adds the words of all lines. Where an output `ticks` has a line with each row, it shows which row decided the others."""
+    """Adds the word of each line. Where an output `ticks` has a line with each row, it shows which row decided the others."""
     waiting: list[tuple[Lane, Sequence[int]]] = []
     for parts in Reader(what).parts(Watched(file, "reading verdicts")):
         rows = parts.pop(ticks, None) if ticks else None
@@ -141,7 +141,7 @@ def take_lines(model: Model, file: Any, what: str = "", ticks: Optional[str] = N
 
 
 def decided(model: Model, parts: dict[str, Part], ticks: Part, waiting: list[tuple[Lane, Sequence[int]]]) -> None:
-    """Tells lanes the rows that decided their words, each that of the next tick. What has no tick yet waits, as what is told here did."""
+    """Gives lanes the rows that decided their words, each that of the next tick. What has no tick yet waits."""
     rows = ticks.times if model.stamps is None else [decided_by(model.stamps, time) for time in ticks.times]
     for lane, times in waiting:
         lane.told.extend(times, [rows[0]] * len(times))

@@ -1,4 +1,4 @@
-"""Counts of verdict lines: of each output its words, and its events, the stretches of F or invalid."""
+"""Counts of verdict lines: of each output how often it has each word, and its events, the stretches of F or invalid."""
 
 from __future__ import annotations
 

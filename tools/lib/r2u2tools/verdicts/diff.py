@@ -12,7 +12,7 @@ SHOWN = 10
 
 
 class Compared:
-    """One output in both runs: stretches that one has told and the other hasn't yet, and where they part."""
+    """One output in both runs: stretches that one has and the other hasn't yet, and where they part."""
 
     def __init__(self) -> None:
         self.ends, self.ahead = [0, 0], (deque[tuple[int, str]](), deque[tuple[int, str]]())
@@ -70,7 +70,7 @@ def stretch(first: int, last: int) -> str:
 
 
 def of_output(name: str, output: Compared, paths: list[str]) -> Iterator[str]:
-    """The lines that tell where one output parts."""
+    """The lines that say where one output parts."""
     for first, last, words in output.shown[:SHOWN]:
         yield f"{name} {stretch(first, last)}: {words[0]} in {paths[0]}, {words[1]} in {paths[1]}"
     if len(output.shown) > SHOWN:
@@ -89,5 +89,5 @@ def told_diff(lines: str, other: str) -> int:
         raise Trouble("one of the two has to be a file")
     paths = [str(lines), str(other)]
     found = [text for name, output in walk(paths).items() for text in of_output(name, output, paths)]
-    print("\n".join(found) if found else "both tell the same")
+    print("\n".join(found) if found else "both have the same verdicts")
     return 1 if found else 0

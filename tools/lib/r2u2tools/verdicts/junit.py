@@ -21,7 +21,7 @@ def element(tag: str, parts: list[Element], **attributes: str) -> Element:
 
 
 def details(output: Output) -> Iterator[str]:
-    """Yields what a person reads of a test that failed: the requirement, its words and its events."""
+    """Yields what a person reads of a test that failed: the requirement, its counts and its events."""
     if output.requirement:
         yield output.requirement
     yield ", ".join(f"{word} {count}" for word, count in output.words.items()) or NO_VERDICT

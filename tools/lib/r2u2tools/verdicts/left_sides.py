@@ -1,6 +1,6 @@
 """How often the left side of an implication or of a contract was true.
 
-A contract tells it by its own words: it is inactive where its left side is
+A contract shows it by its words: it is inactive where its left side is
 false. Of a formula the left side is made an output of a specification of its
 own, with the signals and definitions of the first, and r2u2 watches it over the
 same trace. So the counts are counts of proved verdicts.
@@ -152,7 +152,7 @@ def runs_twice(command: Command) -> None:
 
 
 def exercised(command: Command, result: Result) -> None:
-    """Tells of each output of the result how often its left side was true; what can't be told is said."""
+    """Adds to each output of the result how often its left side was true, or why that isn't known."""
     try:
         with tempfile.TemporaryDirectory() as folder:
             watch(command, result, folder)

@@ -42,7 +42,7 @@ def results(raw: bytes) -> list[Result]:
 
 
 class Merger:
-    """Adds results file by file. A file that is named twice counts once; both that and equal bytes are reported."""
+    """Adds results file by file. A file named twice counts once; both that and equal bytes are reported."""
 
     def __init__(self) -> None:
         self.total = Result(logs=0)
@@ -50,7 +50,7 @@ class Merger:
         self.bytes: dict[str, str] = {}
 
     def take(self, path: str) -> None:
-        """Adds the results of one file; one that can't be read is reported, and counts as a run that failed."""
+        """Adds the results of one file; what can't be read is reported, and counts as a run that failed."""
         place = path if path == "-" else os.path.realpath(path)
         if place in self.files:
             cli.note(f"{path} is given twice: it counts once")

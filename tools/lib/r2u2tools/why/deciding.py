@@ -213,7 +213,7 @@ class Derivation:
         self.cost[ref], self.pick[ref] = [cost for cost, _ in found], [pick for _, pick in found]
 
     def follows(self, roots: Sequence[tuple[str, int]]) -> bool:
-        """Whether the words of some parts at some times follow from the cells that may be used."""
+        """Whether what some parts have at some times follows from the cells that may be used."""
         return all(self.cost[ref][time - self.verdicts.by_ref[ref].low] < NEVER for ref, time in roots)
 
     def choose(self, roots: Sequence[tuple[str, int]]) -> frozenset[Cell]:
@@ -270,7 +270,7 @@ class Derivation:
         return pick
 
     def demands(self, ref: str, word: int, time: int) -> Iterator[Demand]:
-        """The operands of a part, with the words and the times that its word follows from."""
+        """The operands of a part, with the verdicts and times that its own follows from."""
         node = self.parts.node(ref)
         for it in self.all_demands(ref, node, word, time) if node else ():
             if it.first <= it.last:

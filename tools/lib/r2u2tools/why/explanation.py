@@ -48,7 +48,7 @@ class Held:
 class Explanation:
     """The reasons of one output's verdict at a time.
 
-    `word` is what is told of it, None of an open one, and `at` the time of which the reasons speak: of an open verdict
+    `word` is what is said of it, None of an open one, and `at` the time of which the reasons speak: of an open verdict
     that its parts decide, an earlier one, whose line comes first. `cells` decide the verdict; the reasons may speak of
     more, where no part alone is decided by fewer. `needed` has of a cell rows that show that it can't be left out.
     """
@@ -83,7 +83,7 @@ class Tree:
         self.shown, self.source = shown, source
 
     def reason(self, ref: str, word: int, times: set[int], denied: bool = False) -> Reason:
-        """A part with what it follows from. It is told as the formula around it spells it: as it is, or denied."""
+        """A part with what it follows from. It is spelled as in the formula around it: as it is, or denied."""
         bare, turned = self.shown.bare(ref)
         ref, word, denied = bare, DENIED[word] if turned else word, denied != turned
         denied = denied and self.shown.form(ref, True).op != "!"
@@ -166,7 +166,7 @@ class Explainer:
         return self.decided(window, verdicts, roots, time, word)
 
     def over(self, window: TraceWindow, spans: dict[str, tuple[int, int]]) -> Verdicts:
-        """What r2u2 says of the parts over the rows of a window; a fault is told with its line in the trace."""
+        """What r2u2 says of the parts over the rows of a window; a fault has its line in the trace."""
         origin = min(low for low, _ in spans.values())
         numbers, rows = list[int](), list[bytes]()
         if window.header is not None:

@@ -9,7 +9,7 @@ from __future__ import annotations
 from math import gcd
 from typing import Iterator, Mapping, Optional, Sequence
 
-# A sum of variables, each so many times; the number is that of the empty name.
+# A sum of variables, each with its factor; the number is that of the empty name.
 Sum = dict[str, int]
 Values = dict[str, int]
 NUMBER = ""
@@ -20,7 +20,7 @@ class Unknown(Exception):
 
 
 def added(one: Sum, by: int, other: Sum, times: int) -> Sum:
-    """The one so many times, and the other so many times."""
+    """The sum of `by` times the one and `times` times the other."""
     found = {name: by * count for name, count in one.items()}
     for name, count in other.items():
         found[name] = found.get(name, 0) + times * count
@@ -54,7 +54,7 @@ def negative(total: Sum) -> Sum:
 
 
 class Omega:
-    """Searches integers for sums, in so many steps at most."""
+    """Searches integers for sums, in at most `most_steps` steps."""
 
     def __init__(self, most_steps: int) -> None:
         self.left, self.fresh = most_steps, 0
@@ -133,7 +133,7 @@ class Omega:
 
 
 def tightest(below: Sequence[Sum]) -> Optional[dict[tuple[tuple[str, int], ...], Sum]]:
-    """The sums that are at most 0, of equal ones but for their number the one that says most; None where one can't be."""
+    """The sums that are at most 0, of equal ones but for their number the strictest; None where one can't be."""
     found: dict[tuple[tuple[str, int], ...], Sum] = {}
     for total in below:
         if not variables(total):

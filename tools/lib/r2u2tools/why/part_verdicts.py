@@ -163,7 +163,7 @@ class PartWatch:
         return Verdicts(self.parts, found)
 
     def listen(self, words: list[str], parts: list[Part], origin: int) -> None:
-        """Takes the lines of a run until all that was asked for is told, or the run ends."""
+        """Takes the lines of a run until all that was asked for is there, or the run ends."""
         missing = len(parts)
         with subprocess.Popen(words, stdout=subprocess.PIPE, stderr=subprocess.PIPE) as run:
             assert run.stdout and run.stderr
