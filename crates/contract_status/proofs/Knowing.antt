@@ -6,7 +6,7 @@ use Rattle.std.proofs.lemmas.List.{length-map}
 use Rattle.std.proofs.lemmas.Option.{slice_get_past, slice_get_within, slice_get-map}
 use Rattle.mltl_base.specs.declared.interval.Engine.TheVariants.{Ft as future_engine, Pt as past_engine}
 use Rattle.mltl_base.specs.declared.operators.PtOp.{PtOp}
-use Rattle.mltl_base.specs.declared.operators.PtOp.TheVariants.{True, Load, Not, And, Since}
+use Rattle.mltl_base.specs.declared.operators.PtOp.TheVariants.{Not, And, Since}
 use Rattle.mltl_base.specs.declared.program.Program.{Program}
 use Rattle.mltl_base.specs.declared.report.Word.{Word}
 use Rattle.mltl_base.specs.declared.report.Word.TheVariants.{Inactive}
@@ -33,11 +33,10 @@ ArePast cores = (n : ℕ) → IsPast (plain (core_at cores n))
 
 past_op : (loaded : List Atom) (before : List Core) (op : PtOp) → ArePast before → IsPast (plain (past_formula_of loaded before op))
 unfolding plain
-past_op loaded before True h = tt
-past_op loaded before (Load a) h = tt
 past_op loaded before (Not g) h = h g
 past_op loaded before (And l r) h = (h l, h r)
 past_op loaded before (Since l r i) h = (h l, h r)
+past_op loaded before op h = tt
 
 past_next : (before : List Core) (p : Core) → ArePast before → IsPast (plain p) → ArePast (before ++ p ∷ [])
 unfolding plain

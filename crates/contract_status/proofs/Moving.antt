@@ -32,10 +32,9 @@ nothing_past style k next_time ws past = ap (of_words style k next_time) (drop_a
 
 pub none_left : (style : Style) (rows : List Row) (n : ℕ) (outs : List Output) (next_times : List ℕ) → ((j : ℕ) → j < length outs → slice_index (known_counts rows outs) j ≤ slice_index next_times j) → left_open style rows n outs next_times ≡ []
 unfolding left_open
-none_left style rows n [] next_times told = refl
-none_left style rows n (o ∷ outs) [] told = refl
 none_left style rows n (o ∷ outs) (next_time ∷ next_times) told =
     rw (nothing_past style n next_time (words rows o) (told 0 (omega arith))) (none_left style rows (suc n) outs next_times (λ j below. told (suc j) (omega arith)))
+none_left style rows n outs next_times told = refl
 
 -- where nothing is open before output k, its reports come first
 pub open_from : (style : Style) (rows : List Row) (n k m : ℕ) (outs : List Output) (next_times : List ℕ) (o : Output) → m ≡ n + k → slice_get outs k ≡ Some o → k < length next_times
@@ -81,26 +80,7 @@ same_word_other F F differ = absurd (differ refl)
 same_word_other Inactive Inactive differ = absurd (differ refl)
 same_word_other Invalid Invalid differ = absurd (differ refl)
 same_word_other Verified Verified differ = absurd (differ refl)
-same_word_other T F differ = refl
-same_word_other T Inactive differ = refl
-same_word_other T Invalid differ = refl
-same_word_other T Verified differ = refl
-same_word_other F T differ = refl
-same_word_other F Inactive differ = refl
-same_word_other F Invalid differ = refl
-same_word_other F Verified differ = refl
-same_word_other Inactive T differ = refl
-same_word_other Inactive F differ = refl
-same_word_other Inactive Invalid differ = refl
-same_word_other Inactive Verified differ = refl
-same_word_other Invalid T differ = refl
-same_word_other Invalid F differ = refl
-same_word_other Invalid Inactive differ = refl
-same_word_other Invalid Verified differ = refl
-same_word_other Verified T differ = refl
-same_word_other Verified F differ = refl
-same_word_other Verified Inactive differ = refl
-same_word_other Verified Invalid differ = refl
+same_word_other v w differ = refl
 
 goes_on_there : (w : Word) (ws : List Word) (i : ℕ) → slice_get ws i ≡ Some w → goes_on w (drop i ws) ≡ true
 goes_on_there w [] i there = cc

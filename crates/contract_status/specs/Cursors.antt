@@ -41,6 +41,11 @@ pub record MovesPast (n : ℕ) (report : Report) (before after : Cursor) : Type 
   pub keeps : (stretch : Stretch) → before.stretch ≡ Some stretch → report.time < stretch.last → report.time + 1 < n
       → after.stretch ≡ Some stretch
 
+-- After a search, of n rows, the next one goes on past the report that was given, or past all outputs where none was.
+abbrev pub MovesOn : ℕ → ℕ → Option Report → Cursor → Cursor → Type 0
+MovesOn n outs (Some report) before after = MovesPast n report before after
+MovesOn n outs None before after = after.out ≡ outs
+
 -- where the word of a report is known at the next time of its output too, the cursor has a run
 abbrev pub KeepsStretch : Program → List Row → Report → Cursor → Type 0
 KeepsStretch program rows report after =

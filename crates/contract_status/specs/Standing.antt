@@ -9,6 +9,7 @@ use Rattle.ft_engine.specs.declared.Ft.{Ft}
 use Rattle.ft_engine.specs.Standing as future
 use Rattle.pt_boxes.specs.declared.Pt.{Pt}
 use Rattle.pt_boxes.specs.Standing as past
+use Rattle.contract_status.specs.declared.engines.Engines.{Engines}
 use Rattle.contract_status.specs.Open.{ArePlaced, GivesFirst, IsGiven}
 
 -- both engines of the program have taken these rows, n in number, and each output has its next time
@@ -18,6 +19,11 @@ pub record StandFor (program : Program) (rows : List Row) (n : ℕ) (ft : Ft) (p
   pub past : past.PtHasTaken program rows pt
   pub placed : ArePlaced program rows next_times
   pub count : length rows ≡ n
+
+-- the same of both engines at once
+abbrev pub EnginesStandFor : Program → List Row → Engines → List ℕ → Type 0
+EnginesStandFor program rows engines next_times =
+    StandFor program rows engines.rows engines.ft.now engines.pt.now next_times
 
 -- The first report that was open after n rows was given, and the others still are; where none was open, nothing
 -- changed.

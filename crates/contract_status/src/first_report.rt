@@ -1,10 +1,10 @@
 //! The first report that is open.
 
-ghost use Rattle.std.specs.Prelude.{◌≡◌, ◌+◌, ◌^◌, ◌≤◌, List, IfSome, IsNone, length};
+ghost use Rattle.std.specs.Prelude.{◌+◌, ◌≤◌, List, IfSome, length};
 ghost use Rattle.mltl_base.specs.declared.limits.TheConstants.{MAX_MISSION};
 ghost use Rattle.mltl_base.specs.Atoms.{Row};
-ghost use Rattle.contract_status.specs.Cursors.{FitsEngines, KeepsStretch, MovesPast, outs_after};
-ghost use Rattle.contract_status.specs.Standing.{GivesNext, StandFor};
+ghost use Rattle.contract_status.specs.Cursors.{FitsEngines, KeepsStretch, MovesOn, outs_after};
+ghost use Rattle.contract_status.specs.Standing.{EnginesStandFor, GivesNext};
 
 use crate::cursor::Cursor;
 use crate::engines::Engines;
@@ -26,18 +26,15 @@ pub fn tell_first<L: Ledger>(
     steps: &mut Steps<L>,
 ) -> Option<Report>
     requires early { engines.now.rows ≤ MAX_MISSION }
-    requires stands { (rows : List Row) × StandFor checked.now rows engines.now.rows
-        engines.now.ft.now engines.now.pt.now next_times.old }
+    requires stands { (rows : List Row)
+        × EnginesStandFor checked.now rows engines.now next_times.old }
     requires cursor { FitsEngines checked.now engines.now next_times.old cursor.old }
     ensures gives { GivesNext style checked.now engines.now.rows
         engines.now.ft.now engines.now.pt.now result next_times.old next_times.new }
     ensures cursor { FitsEngines checked.now engines.now next_times.new cursor.new }
-    ensures moves { IfSome result (λ report.
-        MovesPast engines.now.rows report cursor.old cursor.new) }
-    ensures keeps { (rows : List Row) → StandFor checked.now rows engines.now.rows
-        engines.now.ft.now engines.now.pt.now next_times.old
+    ensures moves { MovesOn engines.now.rows (length next_times.old) result cursor.old cursor.new }
+    ensures keeps { (rows : List Row) → EnginesStandFor checked.now rows engines.now next_times.old
         → IfSome result (λ report. KeepsStretch checked.now rows report cursor.new) }
-    ensures past { IsNone result → cursor.new.out ≡ length next_times.old }
     ensures counted { steps.new + outs_after next_times.old cursor.new
         ≤ steps.old + outs_after next_times.old cursor.old + 2 }
 {

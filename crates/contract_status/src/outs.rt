@@ -28,12 +28,12 @@ impl Model for Outs {
 }
 
 impl Outs {
-    ghost use Rattle.std.specs.Prelude.{◌≡◌, ◌+◌, ◌^◌, ◌≤◌, ◌↔◌, List, [], length, replicate, IfOk, IfSome, IsNone, IsTrue};
+    ghost use Rattle.std.specs.Prelude.{◌≡◌, ◌+◌, ◌≤◌, ◌↔◌, List, [], length, replicate, IfOk, IfSome, IsTrue};
     ghost use Rattle.mltl_base.specs.declared.limits.TheConstants.{MAX_MISSION};
     ghost use Rattle.mltl_base.specs.declared.report.Style.{Style as Form};
     ghost use Rattle.mltl_base.specs.declared.report.Style.TheVariants.{Each as each, Runs as runs};
     ghost use Rattle.mltl_base.specs.Atoms.{Row};
-    ghost use Rattle.contract_status.specs.Cursors.{FitsCursor, KeepsStretch, MovesPast, outs_after};
+    ghost use Rattle.contract_status.specs.Cursors.{FitsCursor, KeepsStretch, MovesOn, outs_after};
     ghost use Rattle.contract_status.specs.Open.{ArePlaced, known_counts_of, open_of};
     ghost use Rattle.contract_status.specs.Standing.{GivesNext, StandFor};
 
@@ -107,10 +107,9 @@ impl Outs {
         requires cursor { FitsCursor checked.now n ft.now pt.now self.old cursor.old }
         ensures gives { GivesNext style checked.now n ft.now pt.now result self.old self.new }
         ensures cursor { FitsCursor checked.now n ft.now pt.now self.new cursor.new }
-        ensures moves { IfSome result (λ report. MovesPast n report cursor.old cursor.new) }
+        ensures moves { MovesOn n (length self.old) result cursor.old cursor.new }
         ensures keeps { (rows : List Row) → StandFor checked.now rows n ft.now pt.now self.old
             → IfSome result (λ report. KeepsStretch checked.now rows report cursor.new) }
-        ensures past { IsNone result → cursor.new.out ≡ length self.old }
         ensures counted { steps.new + outs_after self.old cursor.new
             ≤ steps.old + outs_after self.old cursor.old + 2 }
     {

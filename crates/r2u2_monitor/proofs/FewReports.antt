@@ -62,11 +62,10 @@ AreOrdered cores = (n : ℕ) → IsOrdered (plain (core_at cores n))
 
 ordered_op : (loaded : List Atom) (before : List Core) (op : FtOp) → AreOrdered before → HasBounds MAX_BOUND op → IsOrdered (plain (op_formula loaded before op))
 unfolding plain
-ordered_op loaded before ft.True h b = tt
-ordered_op loaded before (ft.Load a) h b = tt
 ordered_op loaded before (ft.Not g) h b = h g
 ordered_op loaded before (ft.And l r) h b = (h l, h r)
 ordered_op loaded before (ft.Until l r i) h b = (b.0, (h l, h r))
+ordered_op loaded before op h b = tt
 
 ordered_next : (before : List Core) (p : Core) → AreOrdered before → IsOrdered (plain p) → AreOrdered (before ++ p ∷ [])
 unfolding plain

@@ -8,7 +8,7 @@ use Rattle.std.proofs.lemmas.Bool.{cases_lt}
 use Rattle.std.proofs.lemmas.List.{get_or_past}
 use Rattle.std.proofs.lemmas.List.Folds.{Any-from_list_any, list_any_at}
 use Rattle.mltl_base.specs.declared.operators.BzOp.{BzOp}
-use Rattle.mltl_base.specs.declared.operators.BzOp.TheVariants.{Column, IsTrue, Const, Neg, Add, Sub, Mul, Div, Rem, Eq, Lt, Le}
+use Rattle.mltl_base.specs.declared.operators.BzOp.TheVariants.{Column, IsTrue}
 use Rattle.mltl_base.specs.declared.program.Program.{Program}
 use Rattle.mltl_base.specs.Atoms.{Row, in_column}
 use Rattle.mltl_base.specs.Programs.{FitsRow, IsFit}
@@ -76,16 +76,7 @@ op_fits ops row held i d (IsTrue c) inside is =
       | inl within ↦ truth_held (in_column row c) (list_any (reads_truth c) ops) (list_any (reads_whole c) ops) reads (held c within)
       | inr past ↦ inl (get_or_past row c (pos 0) past)
     ]
-op_fits ops row held i d (Const n) inside is = tt
-op_fits ops row held i d (Neg a) inside is = tt
-op_fits ops row held i d (Add a b) inside is = tt
-op_fits ops row held i d (Sub a b) inside is = tt
-op_fits ops row held i d (Mul a b) inside is = tt
-op_fits ops row held i d (Div a b) inside is = tt
-op_fits ops row held i d (Rem a b) inside is = tt
-op_fits ops row held i d (Eq a b) inside is = tt
-op_fits ops row held i d (Lt a b) inside is = tt
-op_fits ops row held i d (Le a b) inside is = tt
+op_fits ops row held i d op inside is = tt
 
 -- a row that is as wide as the program fits where each of its columns can hold its number
 pub fit_from_columns : (program : Program) (row : Row) → length row ≡ program.width → ((c : ℕ) → c < length row → FitsColumn (reading_of program.bz) row c) → IsFit program row

@@ -9,7 +9,7 @@ use Rattle.r2u2_monitor.specs.declared.running.Running.{Running}
 use Rattle.r2u2_monitor.specs.declared.state.State.{State}
 use Rattle.r2u2_monitor.specs.Bursts.{OpensFew, most_reports}
 use Rattle.r2u2_monitor.specs.Monitoring.{MonitorIsSound, Stands, TakesRow, program_of}
-use Rattle.r2u2_monitor.specs.Running.{HasTaken, Yields, YieldsFirst, YieldsMany, open_by}
+use Rattle.r2u2_monitor.specs.Running.{Yields, YieldsMany, YieldsNext, open_by}
 use Rattle.r2u2_monitor.specs.Stepping.{ReturnsMany, StepsOver}
 
 -- none was given
@@ -25,14 +25,13 @@ moves_by_report : (report : Report) (b c : Running) → Yields report b c → c 
 moves_by_report report b c given = given.moved ∙ ap (λ (outs : List ℕ). record b { outs = outs }) (sym (ap (λ (r : Running). r.outs) given.moved))
 
 -- one more was given
-pub yields_more : (style : Style) (told : List Report) (report : Report) (a b c : Running) → YieldsMany style told a b → Yields report b c
-    → ((rows : List Row) → HasTaken b rows → YieldsFirst style (Some report) b c rows) → ((rows : List Row) → HasTaken b rows → HasTaken c rows) → YieldsMany style (told ++ report ∷ []) a c
-yields_more style told report a b c many given first stands = record {
+pub yields_more : (style : Style) (told : List Report) (report : Report) (a b c : Running) → YieldsMany style told a b → YieldsNext style (Some report) b c → YieldsMany style (told ++ report ∷ []) a c
+yields_more style told report a b c many one = record {
   first = λ rows taken.
-      many.first rows taken ∙ ap (λ (more : List Report). told ++ more) (first rows (many.stands rows taken))
+      many.first rows taken ∙ ap (λ (more : List Report). told ++ more) (one.first rows (many.stands rows taken))
       ∙ sym (append_assoc told (report ∷ []) (open_by style c rows));
-  stands = λ rows taken. stands rows (many.stands rows taken);
-  moved = moves_on a b c many.moved (moves_by_report report b c given);
+  stands = λ rows taken. one.stands rows (many.stands rows taken);
+  moved = moves_on a b c many.moved (moves_by_report report b c one.given);
 }
 
 -- the same of a monitor, which changes in nothing else

@@ -35,4 +35,4 @@ checked_fields fields kept = rw (kept.best, kept.worst, kept.read_by) (omega ari
 
 -- and so do those of a monitor
 pub monitor_fields : (fields : MonitorFields) → monitor.invariant fields → bytes_in_monitor fields ≡ bytes_of (monitor.view fields)
-monitor_fields fields kept = rw kept.2 (omega arith)
+monitor_fields fields kept = rw kept.readings (omega arith)

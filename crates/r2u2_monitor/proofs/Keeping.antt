@@ -22,8 +22,22 @@ use Rattle.r2u2_monitor.specs.declared.state.State.{State}
 use Rattle.r2u2_monitor.specs.Running.{HasTaken}
 use Rattle.r2u2_monitor.specs.Running as running
 use Rattle.r2u2_monitor.specs.Monitoring.{IsDrained, IsSame, MonitorIsSound, Stands, last_of, places_of, program_of, read_of, room_total_of, slot_total_of, slots_of}
-use Rattle.r2u2_monitor.proofs.LastRows.{all_last, ends_with, same_last}
+use Rattle.r2u2_monitor.proofs.LastRows.{all_last, ends_with, none_before, same_last}
 use Rattle.r2u2_monitor.proofs.Taking.{drained_places}
+
+-- a monitor that has taken no rows represents none, and is sound
+pub stands_at_start : (monitor : State) → HasTaken monitor.running [] → Stands monitor []
+stands_at_start monitor taken = record { taken = taken; last = λ before row is. absurd (none_before before row is) }
+
+pub sound_at_start : (monitor : State) → HasTaken monitor.running [] → monitor.running.taken ≡ 0 → length monitor.running.bz ≡ length (program_of monitor).bz → length (last_of monitor) ≡ (program_of monitor).width → length (read_of monitor) ≡ (program_of monitor).width
+    → MonitorIsSound monitor
+sound_at_start monitor taken none numbers wide wide' = record {
+  some = ([], stands_at_start monitor taken);
+  early = omega (arith, none);
+  numbers = numbers;
+  last_wide = wide;
+  read_wide = wide';
+}
 
 -- a sound monitor that takes a row is sound
 pub sound_after : (before after : State) (row : Row) → MonitorIsSound before → running.EnginesTakeRow row before.running after.running → before.running.taken < 2 ^ 40 → last_of after ≡ row

@@ -1,7 +1,7 @@
 -- What an answer says of the reports that were open.
 
 use Rattle.std.proofs.Common.{◌≡◌, ◌↔◌, ℕ, ◌^◌, ◌≤◌, Bool, Option, None, Some, List, [], ◌∷◌, refl, ap, sym, subst, ◌∙◌, arith}
-use Rattle.std.specs.Prelude.{IfNone, IfSome, IsNone, IsTrue}
+use Rattle.std.specs.Prelude.{IfNone, IsNone, IsTrue}
 use Rattle.mltl_base.specs.declared.program.Program.{Program}
 use Rattle.mltl_base.specs.declared.report.Report.{Report}
 use Rattle.mltl_base.specs.declared.report.Style.{Style}
@@ -12,7 +12,7 @@ use Rattle.contract_status.specs.Open as status
 use Rattle.contract_status.proofs.Opening.{no_other}
 use Rattle.r2u2_monitor.specs.declared.running.Running.{Running}
 use Rattle.r2u2_monitor.specs.declared.state.State.{State}
-use Rattle.r2u2_monitor.specs.Running.{YieldsFirst, HasTaken, IsDrained, Yields, open_by}
+use Rattle.r2u2_monitor.specs.Running.{HasTaken, IsDrained, Yields, YieldsFirst, YieldsNext, open_by}
 use Rattle.r2u2_monitor.specs.Monitoring as monitor
 
 -- what is given of next times is given of what runs
@@ -59,31 +59,29 @@ none_leaves_drained style None before after gives same = subst IsDrained (sym (s
 none_leaves_drained style (Some report) before after gives same = tt
 
 -- so what runs gives a report, the monitor does
-pub gives_next : (style : Style) (result : Option Report) (before : State) (after : Running) → (rows : List Row) × HasTaken before.running rows → before.running.taken ≤ 2 ^ 40
-    → ((rows : List Row) → HasTaken before.running rows → YieldsFirst style result before.running after rows) → ((rows : List Row) → HasTaken before.running rows → HasTaken after rows)
-    → (IsNone result → after ≡ before.running) → IfSome result (λ report. Yields report before.running after)
+pub gives_next : (style : Style) (result : Option Report) (before : State) (after : Running) → (rows : List Row) × HasTaken before.running rows → before.running.taken ≤ 2 ^ 40 → YieldsNext style result before.running after
     → monitor.ReturnsNext style result before (record before { running = after })
-gives_next style None before after some early first stands none given =
-    let same : after ≡ before.running = none refl in
+gives_next style None before after some early yields =
+    let same : after ≡ before.running = yields.none refl in
     record {
-      first = λ rows stood. first rows stood.taken;
-      stands = λ rows stood. record { taken = stands rows stood.taken; last = stood.last };
-      none = none_where_drained style None before.running after first some;
+      first = λ rows stood. yields.first rows stood.taken;
+      stands = λ rows stood. record { taken = yields.stands rows stood.taken; last = stood.last };
+      none = none_where_drained style None before.running after yields.first some;
       same = ap (λ (running : Running). record before { running = running }) same;
-      drained = none_leaves_drained style None before.running after first none;
+      drained = none_leaves_drained style None before.running after yields.first yields.none;
       given = tt;
       program = ap (λ (running : Running). running.checked) same;
       as_many = ap (λ (running : Running). running.taken) same;
     }
-gives_next style (Some report) before after some early first stands none given = record {
-  first = λ rows stood. first rows stood.taken;
-  stands = λ rows stood. record { taken = stands rows stood.taken; last = stood.last };
-  none = none_where_drained style (Some report) before.running after first some;
+gives_next style (Some report) before after some early yields = record {
+  first = λ rows stood. yields.first rows stood.taken;
+  stands = λ rows stood. record { taken = yields.stands rows stood.taken; last = stood.last };
+  none = none_where_drained style (Some report) before.running after yields.first some;
   same = tt;
   drained = tt;
-  given = given_of_running before after report early given;
-  program = ap (λ (running : Running). running.checked) given.moved;
-  as_many = ap (λ (running : Running). running.taken) given.moved;
+  given = given_of_running before after report early yields.given;
+  program = ap (λ (running : Running). running.checked) yields.given.moved;
+  as_many = ap (λ (running : Running). running.taken) yields.given.moved;
 }
 
 -- an answer that tells of one list of rows tells of each

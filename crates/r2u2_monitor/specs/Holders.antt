@@ -12,7 +12,6 @@ use Rattle.trace_feed.specs.declared.Readings.TheInside.{Inside as ReadingsField
 use Rattle.r2u2_monitor.specs.declared.bytes.TheConstants.{NUMBER_BYTES, READER_BYTES, READING_BYTES}
 use Rattle.r2u2_monitor.specs.declared.bytes.TheConstants.{SIZE_BYTES, TIME_BYTES}
 use Rattle.r2u2_monitor.specs.declared.monitor.Monitor.TheInside.{Inside as MonitorFields}
-use Rattle.r2u2_monitor.specs.declared.state.State.{State}
 use Rattle.r2u2_monitor.specs.Bytes.{bytes_of_program, bytes_of_running}
 
 -- the best and the worst delays
@@ -45,14 +44,11 @@ bytes_in_readings readings =
     let record { columns = columns } = readings in
     READING_BYTES * length columns
 
--- what contracts see of a monitor
-abbrev pub bytes_in_state : State → ℕ
-bytes_in_state state =
-    let record { running = running; last = last; read = read } = state in
-    bytes_of_running running + NUMBER_BYTES * length last + NUMBER_BYTES * length read
-
 -- a monitor
 abbrev pub bytes_in_monitor : MonitorFields → ℕ
 bytes_in_monitor monitor =
-    let record { state = state; readings = readings; cursor = cursor } = monitor in
-    bytes_in_state state + READING_BYTES * length readings
+    let record { running = running; last = last; read = read; readings = readings; cursor = cursor } = monitor in
+    bytes_of_running running
+    + NUMBER_BYTES * length last
+    + NUMBER_BYTES * length read
+    + READING_BYTES * length readings

@@ -1,5 +1,6 @@
 pub mod Running
 pub mod Monitoring
+pub mod Kept
 pub mod Bytes
 pub mod Holders
 pub mod Bursts

@@ -76,7 +76,7 @@ pub record HasGiven (report : Report) (before after : State) : Type 0 where
   pub last : last_of after ≡ last_of before
   pub read : read_of after ≡ read_of before
 
--- A report was returned: it is of an existing output, at a time that was taken, among the first 2 ^ 40. Nothing else
+-- A report was returned: it is of an existing output, at a time that was taken, below MAX_MISSION. Nothing else
 -- changed, and fewer times are left to report.
 pub record IsReturned (report : Report) (before after : State) : Type 0 where
   pub moved : HasGiven report before after
@@ -124,7 +124,7 @@ KeepsKnown row before after =
     → slice_get (outputs (program_of after)) k ≡ Some o
     → GoesOnPast (words rows o) (words (rows ++ row ∷ []) o) (slice_index (places_of after) k)
 
--- what holds of each monitor: it represents some rows, at most 2 ^ 40 of them, and has room for a row
+-- what holds of each monitor: it represents some rows, at most MAX_MISSION of them, and has room for a row
 pub record MonitorIsSound (monitor : State) : Type 0 where
   pub some : (rows : List Row) × Stands monitor rows
   pub early : taken_by monitor ≤ MAX_MISSION

@@ -38,7 +38,7 @@ pub record IsUnfitAt (program : Program) (row : Row) (column : ℕ) : Type 0 whe
   pub many : program.width < length row → column ≡ program.width
   pub first : length row ≡ program.width → IsFirstUnfit (reading_of program.bz) row column
 
--- all reports were given, the numbers are a row of the program, and fewer than 2 ^ 40 rows were taken
+-- all reports were given, the numbers are a row of the program, and fewer than MAX_MISSION rows were taken
 pub record IsReady (monitor : State) (row : Row) : Type 0 where
   pub drained : IsDrained monitor
   pub fit : IsFit (program_of monitor) row

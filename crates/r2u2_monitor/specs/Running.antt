@@ -1,6 +1,7 @@
 -- What runs in a monitor, after some rows.
 
-use Rattle.std.specs.Prelude.{◌≡◌, ℕ, ◌+◌, ◌-◌, ◌<◌, Option, None, Some, List, [], ◌∷◌, ◌++◌, All, length, slice_set}
+use Rattle.std.specs.Prelude.{◌≡◌, ℕ, ◌+◌, ◌-◌, ◌<◌, ◌≤◌, Option, None, Some, List, [], ◌∷◌, ◌++◌}
+use Rattle.std.specs.Prelude.{All, IfSome, IsNone, drop, length, slice_set}
 use Rattle.mltl_base.specs.declared.report.Report.{Report}
 use Rattle.mltl_base.specs.declared.report.Style.{Style}
 use Rattle.mltl_base.specs.Atoms.{Row}
@@ -55,6 +56,14 @@ abbrev pub YieldsFirst : Style → Option Report → Running → Running → Lis
 YieldsFirst style None before after rows = open_by style before rows ≡ []
 YieldsFirst style (Some report) before after rows = open_by style before rows ≡ report ∷ open_by style after rows
 
+-- The first report that was open in a style was given, and the others still are; where there was none, nothing changed.
+-- The same rows were taken.
+pub record YieldsNext (style : Style) (result : Option Report) (before after : Running) : Type 0 where
+  pub first : (rows : List Row) → HasTaken before rows → YieldsFirst style result before after rows
+  pub stands : (rows : List Row) → HasTaken before rows → HasTaken after rows
+  pub none : IsNone result → after ≡ before
+  pub given : IfSome result (λ report. Yields report before after)
+
 -- one more row was taken, and all reports that it brings are open; no next time has moved
 pub record EnginesTakeRow (row : Row) (before after : Running) : Type 0 where
   pub program : after.checked ≡ before.checked
@@ -74,3 +83,8 @@ pub record YieldsMany (style : Style) (told : List Report) (before after : Runni
       → open_by style before rows ≡ told ++ open_by style after rows
   pub stands : (rows : List Row) → HasTaken before rows → HasTaken after rows
   pub moved : after ≡ record before { outs = after.outs }
+
+-- so many reports were written to the front of a list, which has room for them, and the rest of it stayed
+pub record WritesFront (count : ℕ) (before after : List Report) : Type 0 where
+  pub within : count ≤ length before
+  pub rest : drop count after ≡ drop count before

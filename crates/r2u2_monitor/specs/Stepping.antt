@@ -19,8 +19,8 @@ pub record ReturnsMany (style : Style) (told : List Report) (before after : Stat
   pub last : last_of after ≡ last_of before
   pub read : read_of after ≡ read_of before
 
--- The monitor has taken one more row. These reports were returned, the first of those that it brings, and the others are
--- open.
+-- The monitor has taken one more row. These reports were returned, the first of those that it brings, and the others
+-- are open.
 pub record StepsOver (style : Style) (row : Row) (told : List Report) (before after : State) : Type 0 where
   pub brings : (rows : List Row) → Stands before rows
       → of_row style 0 (outputs (program_of before)) rows row ≡ told ++ open_in style after (rows ++ row ∷ [])

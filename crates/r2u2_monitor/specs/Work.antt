@@ -1,4 +1,5 @@
--- The most steps of one row, by the program alone: from the question whether it can be taken to the last of its reports.
+-- The most steps of one row, by the program alone: from the question whether it can be taken to the last of its
+-- reports.
 
 use Rattle.std.specs.Prelude.{ℕ, ◌+◌, ◌*◌, length}
 use Rattle.mltl_base.specs.declared.program.Program.{Program}

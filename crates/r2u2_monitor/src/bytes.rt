@@ -95,7 +95,7 @@ fn checked_bytes(program: &Program) -> u64
 /// The bytes of how columns are read, and of two rows.
 fn column_bytes(width: u32) -> u64
     ensures bytes { result ≡ READING_BYTES * width + NUMBER_BYTES * width + NUMBER_BYTES * width }
-    ensures few { result < 2 ^ 40 }
+    ensures few { result < 2 ^ 37 }
 {
     (READING_BYTES + 2 * NUMBER_BYTES) as u64 * u64::from(width)
 }

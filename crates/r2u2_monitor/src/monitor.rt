@@ -1,12 +1,12 @@
 //! The monitor.
 
-use crate::row_buffers::{RowBuffers, copy_row};
+use crate::row_buffers::{copy_row, row_buffers};
 use crate::row_fault::RowFault;
 use crate::running::Running;
-use crate::state::State;
 use crate::unfit::unfit_column;
 use arrayvec::ArrayVec;
 use contract_status::{Cursor, line_of};
+use fixed_list::Fixed;
 use mltl_base::limits::MAX_MISSION;
 use mltl_base::steps::Steps;
 use mltl_base::{Report, Style};
@@ -21,7 +21,11 @@ use trace_feed::{Readings, RowAnswer, row_fields_by};
 /// next. `load` allocates all its memory. Contracts see its state.
 #[derive(Drop)]
 pub struct Monitor {
-    state: State,
+    running: Running,
+    /// The row that was taken last.
+    last: Fixed<i64>,
+    /// Room for a row that is read and isn't taken yet.
+    read: Fixed<i64>,
     /// How the program reads each column.
     readings: Readings,
     /// Where the search for the next report of the last row goes on.
@@ -31,20 +35,16 @@ pub struct Monitor {
 impl Model for Monitor {
     ghost use Rattle.r2u2_monitor.specs.declared.state.State.{State as Shown};
     ghost use Rattle.r2u2_monitor.specs.contracts.state.State.{the_row};
-    ghost use Rattle.std.specs.Prelude.{◌≡◌};
-    ghost use Rattle.r2u2_monitor.specs.Monitoring.{MonitorIsSound, program_of};
-    ghost use Rattle.r2u2_monitor.specs.Running.{ResumesAt};
-    ghost use Rattle.trace_feed.specs.Readings.{readings_of};
 
     ghost Value = { Shown };
 
     ghost coded = { the_row.coded };
 
-    ghost view = { λ monitor. monitor.state };
+    ghost use Rattle.r2u2_monitor.specs.Kept.{IsKept, state_of};
 
-    ghost invariant = { λ monitor. MonitorIsSound monitor.state
-        × ResumesAt monitor.state.running monitor.cursor
-        × (monitor.readings ≡ readings_of (program_of monitor.state)) };
+    ghost view = { state_of };
+
+    ghost invariant = { IsKept };
 }
 
 impl Monitor {
@@ -74,32 +74,26 @@ impl Monitor {
         ensures drained { IfOk result IsDrained }
         ensures bytes { IfOk result (λ monitor. bytes_of monitor ≡ monitor_bytes checked) }
     {
-        let RowBuffers {
-            last,
-            read,
-            readings,
-        } = RowBuffers::of(alloc, &checked)?;
+        let (last, read, readings) = row_buffers(alloc, &checked)?;
         let running = Running::load(alloc, checked)?;
         Ok(Monitor {
-            state: State {
-                running,
-                last,
-                read,
-            },
+            running,
+            last,
+            read,
             readings,
             cursor: Cursor::start(),
         })
     }
 
-    /// Resets the monitor to its state before the first row; it can take up to 2 ^ 40 more. It neither allocates nor
-    /// frees.
+    /// Resets the monitor to its state before the first row; it can take up to `MAX_MISSION` rows again. It neither
+    /// allocates nor frees.
     pub fn reset(&mut self)
         ensures program { program_of self.new ≡ program_of self.old }
         ensures taken { taken_by self.new ≡ 0 }
         ensures stands { Stands self.new [] }
         ensures drained { IsDrained self.new }
     {
-        self.state.running.reset();
+        self.running.reset();
         self.cursor = Cursor::start();
     }
 
@@ -107,15 +101,15 @@ impl Monitor {
     pub fn checked(&self) -> &Checked
         ensures program { result.now ≡ program_of self.now }
     {
-        &self.state.running.checked
+        &self.running.checked
     }
 
-    /// The number of rows that it has taken, at most 2 ^ 40.
+    /// The number of rows that it has taken, at most `MAX_MISSION`.
     pub fn rows_taken(&self) -> u64
         ensures taken { result ≡ taken_by self.now }
         ensures early { result ≤ MAX_MISSION }
     {
-        self.state.running.taken
+        self.running.taken
     }
 
     /// Takes the next row, with one number for each column, if it is valid and the monitor is ready for it. Otherwise
@@ -155,6 +149,7 @@ impl Monitor {
         ensures ready { IsOk result ↔ IsReady self.old row.now }
         ensures cause { IfErr result (λ fault. IsRowCause fault self.old row.now) }
         ensures same { OnErr result (self.new ≡ self.old) }
+        ensures represents { OnOk result ((rows : List Row) × Stands self.old rows) }
         ensures counted { steps.new ≤ steps.old + taking_work (program_of self.old) }
     {
         if !self.drained_in(steps) {
@@ -190,18 +185,10 @@ impl Monitor {
         ensures unwritten { OnErr result (reports.new ≡ reports.old) }
         ensures counted { steps.new ≤ steps.old + row_work (program_of self.old) }
     {
-        self.represents();
         match self.try_take(row, steps) {
             Err(fault) => Err(fault),
             Ok(()) => Ok(self.next_many(style, reports, steps)),
         }
-    }
-
-    /// It represents some rows. This does nothing.
-    fn represents(&self)
-        ensures { (rows : List Row) × Stands self.now rows }
-    {
-        let _taken = self.state.running.taken;
     }
 
     /// The first column from which the numbers aren't a row of the program. None where they are one.
@@ -213,7 +200,7 @@ impl Monitor {
         ensures counted_fit { IsFit (program_of self.now) row.now
             → steps.new ≤ steps.old + length (program_of self.now).bz }
     {
-        unfit_column(&self.state.running.checked, &self.readings, row, steps)
+        unfit_column(&self.running.checked, &self.readings, row, steps)
     }
 
     /// Takes the next row, of one number for each column. Its steps are the columns, the instructions of the Booleanizer, and
@@ -229,8 +216,8 @@ impl Monitor {
         ensures counted { steps.new
             ≤ steps.old + ((program_of self.old).width + running_work (program_of self.old)) }
     {
-        copy_row(fields, self.state.last.as_mut_slice(), steps);
-        self.state.running.take(fields, steps);
+        copy_row(fields, self.last.as_mut_slice(), steps);
+        self.running.take(fields, steps);
         self.cursor = Cursor::start();
     }
 
@@ -256,12 +243,11 @@ impl Monitor {
         ensures fit { result ≡ RowAnswer.Good → IsFit (program_of self.old) (read_of self.new) }
         ensures same { IsSame self.old self.new }
     {
-        let state = &mut self.state;
         row_fields_by(
             line,
-            &state.running.checked,
+            &self.running.checked,
             &self.readings,
-            state.read.as_mut_slice(),
+            self.read.as_mut_slice(),
         )
     }
 
@@ -274,7 +260,7 @@ impl Monitor {
         ensures read { read_of self.new ≡ read_of self.old }
         ensures counted { steps.new ≤ steps.old + running_work (program_of self.old) }
     {
-        self.state.running.take(self.state.last.as_slice(), steps);
+        self.running.take(self.last.as_slice(), steps);
         self.cursor = Cursor::start();
     }
 
@@ -286,8 +272,8 @@ impl Monitor {
         ensures takes { TakesRow (read_of self.old) self.old self.new }
         ensures counted { steps.new ≤ steps.old + running_work (program_of self.old) }
     {
-        mem::swap(&mut self.state.last, &mut self.state.read);
-        self.state.running.take(self.state.last.as_slice(), steps);
+        mem::swap(&mut self.last, &mut self.read);
+        self.running.take(self.last.as_slice(), steps);
         self.cursor = Cursor::start();
     }
 
@@ -308,7 +294,7 @@ impl Monitor {
         ensures { ReturnsNext style result self.old self.new }
     {
         let mut steps = Steps::<L>::start(blank);
-        self.state.running.next(style, &mut self.cursor, &mut steps)
+        self.running.next(style, &mut self.cursor, &mut steps)
     }
 
     /// Writes the next reports of the last row, in a style, to the front of a slice, as many as there is room for, and returns
@@ -326,8 +312,7 @@ impl Monitor {
         ensures drained { result < length reports.old → IsDrained self.new }
         ensures counted { steps.new ≤ steps.old + telling_work (program_of self.old) result }
     {
-        self.state
-            .running
+        self.running
             .next_many(style, &mut self.cursor, reports, steps)
     }
 
@@ -377,14 +362,15 @@ impl Monitor {
         self.drained_in(&mut Steps::<L>::start(blank))
     }
 
-    /// Whether all reports were given, in steps that are the outputs that it looks at.
+    /// Whether all reports were given, in steps that are the outputs that it looks at. It represents some rows at any time.
     #[inline(always)]
     fn drained_in<L: Ledger>(&self, steps: &mut Steps<L>) -> bool
         ensures drained { IsTrue result ↔ IsDrained self.now }
         ensures open { (style : Form) (rows : List Row) → Stands self.now rows
             → IsTrue result ↔ (open_in style self.now rows ≡ []) }
+        ensures represents { (rows : List Row) × Stands self.now rows }
         ensures counted { steps.new ≤ steps.old + length (program_of self.now).outs + 1 }
     {
-        self.state.running.is_drained(self.cursor, steps)
+        self.running.is_drained(self.cursor, steps)
     }
 }

@@ -50,10 +50,11 @@ fn delay_of_formula(checked: &Checked, engine: Engine, i: u32) -> u32
 
 /// The most steps of one row, from the question whether it can be taken to the last of its reports: instructions of the three
 /// parts, with the reads and writes of queues and boxes, columns, outputs, and reports.
+#[tactic(auto, using(obs_verify::proofs::RunLaws::runs_future))]
 pub fn row_work(checked: &Checked) -> u64
     ensures { result ≡ row_work checked.now }
 {
-    let program = program_of(checked);
+    let program = checked.program();
     taking_steps(program) + telling_steps(program, most_reports(checked))
 }
 
@@ -99,17 +100,6 @@ fn running_steps(program: &Program) -> u64
     program.bz.len() as u64
         + future_steps(program.ft.as_slice(), sizes.ft.as_slice())
         + past_steps(sizes.pt.as_slice())
-}
-
-/// The program of a checked one, which both engines can run.
-#[tactic(auto, using(obs_verify::proofs::RunLaws::runs_future))]
-fn program_of(checked: &Checked) -> &Program
-    ensures program { result.now ≡ checked.now }
-    ensures future { RunsFuture checked.now }
-    ensures past { RunsPast checked.now }
-    ensures layout { HasLayout checked.now }
-{
-    checked.program()
 }
 
 fn future_steps(ops: &[FtOp], sizes: &[u32]) -> u64

@@ -10,31 +10,21 @@ use std::alloc::{AllocError, Global};
 use std::sync::ledger::Ledger;
 use trace_feed::Readings;
 
-/// Room for the last row and for a row that is being read, and how the program reads their columns.
-#[derive(Drop)]
-pub struct RowBuffers {
-    pub last: Fixed<i64>,
-    pub read: Fixed<i64>,
-    pub readings: Readings,
-}
-
-impl RowBuffers {
-    /// Makes the buffers of a program; the only allocation.
-    pub fn of(alloc: Global, checked: &Checked) -> Result<RowBuffers, AllocError>
-        ensures last { IfOk result (λ buffers. length buffers.last ≡ checked.now.width) }
-        ensures read { IfOk result (λ buffers. length buffers.read ≡ checked.now.width) }
-        ensures readings { IfOk result (λ buffers. buffers.readings ≡ readings_of checked.now) }
-    {
-        let width = checked.program().width as usize;
-        let last = Fixed::filled(alloc, 0, width)?;
-        let read = Fixed::filled(alloc, 0, width)?;
-        let readings = Readings::of(alloc, checked)?;
-        Ok(RowBuffers {
-            last,
-            read,
-            readings,
-        })
-    }
+/// Makes room for the last row and for a row that is being read, and finds how the program reads their columns. It borrows
+/// the program, so that no early return owns it.
+pub fn row_buffers(
+    alloc: Global,
+    checked: &Checked,
+) -> Result<(Fixed<i64>, Fixed<i64>, Readings), AllocError>
+    ensures last { IfOk result (λ made. length made.0 ≡ checked.now.width) }
+    ensures read { IfOk result (λ made. length made.1 ≡ checked.now.width) }
+    ensures readings { IfOk result (λ made. made.2 ≡ readings_of checked.now) }
+{
+    let width = checked.program().width as usize;
+    let last = Fixed::filled(alloc, 0, width)?;
+    let read = Fixed::filled(alloc, 0, width)?;
+    let readings = Readings::of(alloc, checked)?;
+    Ok((last, read, readings))
 }
 
 /// Copies a row, in a step for each column. The columns are copied at once, and the count of them costs nothing.

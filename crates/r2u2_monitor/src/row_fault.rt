@@ -12,7 +12,7 @@ pub enum RowFault {
     /// number; where there are too few numbers the first without one, and where there are too many the first past the
     /// width.
     NotARow(u32),
-    /// 2 ^ 40 rows were taken.
+    /// `MAX_MISSION` rows were taken.
     TooManyRows,
 }
 

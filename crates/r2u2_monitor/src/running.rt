@@ -25,36 +25,26 @@ pub struct Running {
     pub taken: u64,
 }
 
-/// What runs a program, before its first row.
-#[derive(Drop)]
-struct Fresh {
-    bz: Bz,
-    ft: Ft,
-    pt: Pt,
-    outs: Outs,
-}
-
-/// The engines and the outputs of a program, before the first row.
-fn engines(alloc: Global, checked: &Checked) -> Result<Fresh, AllocError>
-    ensures numbers { IfOk result (λ fresh. length fresh.bz ≡ length checked.now.bz) }
-    ensures stand { IfOk result (λ fresh.
-        StandFor checked.now [] 0 fresh.ft fresh.pt fresh.outs) }
-    ensures drained { IfOk result (λ fresh. fresh.outs ≡ known_counts_of checked.now []) }
+/// The engines and the outputs of a program, before the first row. It borrows the program, so that no early return owns it.
+fn engines(alloc: Global, checked: &Checked) -> Result<(Bz, Ft, Pt, Outs), AllocError>
+    ensures numbers { IfOk result (λ made. length made.0 ≡ length checked.now.bz) }
+    ensures stand { IfOk result (λ made. StandFor checked.now [] 0 made.1 made.2 made.3) }
+    ensures drained { IfOk result (λ made. made.3 ≡ known_counts_of checked.now []) }
 {
     let bz = Bz::make(alloc, checked)?;
     let ft = Ft::make(alloc, checked)?;
     let pt = Pt::make(alloc, checked)?;
     let outs = Outs::make(alloc, checked)?;
-    Ok(Fresh { bz, ft, pt, outs })
+    Ok((bz, ft, pt, outs))
 }
 
 impl Running {
-    ghost use Rattle.std.specs.Prelude.{◌≡◌, ◌+◌, ◌*◌, ◌^◌, ◌<◌, ◌≤◌, ◌↔◌, List, [], drop, length, take, IfOk, IfSome, IsNone, IsTrue};
+    ghost use Rattle.std.specs.Prelude.{◌≡◌, ◌+◌, ◌*◌, ◌<◌, ◌≤◌, ◌↔◌, List, [], length, take, IfOk, IsTrue};
     ghost use Rattle.mltl_base.specs.declared.limits.TheConstants.{MAX_MISSION};
     ghost use Rattle.mltl_base.specs.declared.report.Style.{Style as Form};
     ghost use Rattle.mltl_base.specs.Atoms.{Row};
     ghost use Rattle.mltl_base.specs.Programs.{IsFit};
-    ghost use Rattle.r2u2_monitor.specs.Running.{ResumesAt, YieldsFirst, YieldsMany, HasTaken, IsDrained, Yields, EnginesTakeRow, open_by, outs_left};
+    ghost use Rattle.r2u2_monitor.specs.Running.{EnginesTakeRow, HasTaken, IsDrained, ResumesAt, WritesFront, YieldsMany, YieldsNext, open_by, outs_left};
     ghost use Rattle.r2u2_monitor.specs.Work.{running_work};
 
     /// Makes the engines of a program, before the first row; the only allocation.
@@ -65,7 +55,7 @@ impl Running {
         ensures stands { IfOk result (λ running. HasTaken running []) }
         ensures drained { IfOk result IsDrained }
     {
-        let Fresh { bz, ft, pt, outs } = engines(alloc, &checked)?;
+        let (bz, ft, pt, outs) = engines(alloc, &checked)?;
         Ok(Running {
             checked,
             bz,
@@ -121,12 +111,8 @@ impl Running {
         requires some { (rows : List Row) × HasTaken self.old rows }
         requires early { self.old.taken ≤ MAX_MISSION }
         requires cursor { ResumesAt self.old cursor.old }
-        ensures first { (rows : List Row) → HasTaken self.old rows
-            → YieldsFirst style result self.old self.new rows }
-        ensures stands { (rows : List Row) → HasTaken self.old rows → HasTaken self.new rows }
+        ensures yields { YieldsNext style result self.old self.new }
         ensures cursor { ResumesAt self.new cursor.new }
-        ensures none { IsNone result → self.new ≡ self.old }
-        ensures given { IfSome result (λ report. Yields report self.old self.new) }
         ensures counted { steps.new + outs_left self.old cursor.new
             ≤ steps.old + outs_left self.old cursor.old + 2 }
     {
@@ -155,8 +141,7 @@ impl Running {
         requires cursor { ResumesAt self.old cursor.old }
         ensures yields { YieldsMany style (take result reports.new) self.old self.new }
         ensures cursor { ResumesAt self.new cursor.new }
-        ensures rest { drop result reports.new ≡ drop result reports.old }
-        ensures within { result ≤ length reports.old }
+        ensures written { WritesFront result reports.old reports.new }
         ensures drained { result < length reports.old → IsDrained self.new }
         ensures counted { steps.new + outs_left self.old cursor.new
             ≤ steps.old + outs_left self.old cursor.old + 2 * (result + 1) }

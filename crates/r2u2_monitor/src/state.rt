@@ -3,7 +3,8 @@
 use crate::running::Running;
 use fixed_list::Fixed;
 
-/// What runs, the fields of the row that was taken last, and those of a row that was read and isn't taken yet.
+/// What runs, the row that was taken last, and a row that was read and isn't taken yet. No code makes one: it is what a
+/// clause sees where it speaks of a monitor.
 #[derive(Drop)]
 pub struct State {
     pub running: Running,

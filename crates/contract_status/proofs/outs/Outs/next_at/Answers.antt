@@ -23,6 +23,11 @@ returns-clause-cursor g c = λ rows future past count.
     let written : with_members times new ≡ new = with_members_is times new (c.tell_first.auto.next_times ∙ ap length c.as_mut_slice.ensures.value) in
     rw written (c.tell_first.ensures.cursor rows (record { future = future; past = past; count = count }))
 
+pub returns-clause-moves : goal.returns-clause-moves
+returns-clause-moves g c =
+    let next_times : c.as_mut_slice.result.now ≡ c.args.self.now = c.as_mut_slice.ensures.value ∙ c.self.view_is in
+    rw next_times at c.tell_first.ensures.moves
+
 pub returns-clause-keeps : goal.returns-clause-keeps
 returns-clause-keeps g c =
     let next_times : c.as_mut_slice.result.now ≡ c.args.self.now = c.as_mut_slice.ensures.value ∙ c.self.view_is in

@@ -9,10 +9,14 @@ use Rattle.r2u2_monitor.proofs.monitor.Monitor.drained_in.Goals as goal
 
 pub returns-clause-drained : goal.returns-clause-drained
 returns-clause-drained g c =
+    let some = c.self.invariant.sound.some in
     subst (λ (monitor : State). IsTrue c.is_drained.result ↔ IsDrained monitor) c.self.view_is
-    (tells_drained c.is_drained.result c.self.inside.state.running c.is_drained.ensures.open (c.self.invariant.0.some.0, c.self.invariant.0.some.1.taken))
+    (tells_drained c.is_drained.result c.self.inside.running c.is_drained.ensures.open (some.0, some.1.taken))
 
 pub returns-clause-open : goal.returns-clause-open
 returns-clause-open g c =
     subst (λ (monitor : State). (style : Style) (rows : List Row) → Stands monitor rows → IsTrue c.is_drained.result ↔ (open_in style monitor rows ≡ [])) c.self.view_is
     (λ style rows stands. c.is_drained.ensures.open style rows stands.taken)
+
+pub returns-clause-represents : goal.returns-clause-represents
+returns-clause-represents g c = subst (λ (monitor : State). (rows : List Row) × Stands monitor rows) c.self.view_is c.self.invariant.sound.some

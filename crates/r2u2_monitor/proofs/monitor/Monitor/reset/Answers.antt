@@ -1,20 +1,20 @@
-use Rattle.std.proofs.Common.{arith, [], length, ap, sym, ◌∙◌}
+use Rattle.std.proofs.Common.{length, ap, sym, ◌∙◌}
 use Rattle.mltl_base.specs.declared.program.Program.{Program}
 use Rattle.trace_feed.specs.Readings.{readings_of}
-use Rattle.r2u2_monitor.proofs.LastRows.{none_before}
+use Rattle.r2u2_monitor.proofs.Keeping.{sound_at_start, stands_at_start}
 use Rattle.r2u2_monitor.proofs.monitor.Monitor.reset.Goals as goal
+
+pub returns-clause-stands : goal.returns-clause-stands
+returns-clause-stands c = stands_at_start _ c.reset.ensures.stands
 
 pub invariant_of-self : goal.invariant_of-self
 invariant_of-self c =
-    let sound = c.self.invariant.0 in
-    let same = sym c.reset.ensures.program in (
-      record {
-        some = ([], record { taken = c.reset.ensures.stands; last = λ before row is. absurd (none_before before row is) });
-        early = omega (arith, c.reset.ensures.taken);
-        numbers = c.reset.ensures.numbers ∙ sound.numbers ∙ ap (λ (p : Program). length p.bz) same;
-        last_wide = sound.last_wide ∙ ap (λ (p : Program). p.width) same;
-        read_wide = sound.read_wide ∙ ap (λ (p : Program). p.width) same;
-      },
-      λ rows future past count known. c.start-self-inside.ensures c.reset.new.self.checked rows c.reset.new.self.outs,
-      c.self.invariant.2 ∙ ap readings_of same,
-    )
+    let sound = c.self.invariant.sound in
+    let same = sym c.reset.ensures.program in
+    let numbers = c.reset.ensures.numbers ∙ sound.numbers ∙ ap (λ (p : Program). length p.bz) same in
+    let width = ap (λ (p : Program). p.width) same in
+    record {
+      sound = sound_at_start _ c.reset.ensures.stands c.reset.ensures.taken numbers (sound.last_wide ∙ width) (sound.read_wide ∙ width);
+      resumes = λ rows future past count known. c.start-self-inside.ensures c.reset.new.self.checked rows c.reset.new.self.outs;
+      readings = c.self.invariant.readings ∙ ap readings_of same;
+    }

@@ -14,6 +14,6 @@ pub returns-in-Ok-clause-counted : goal.returns-in-Ok-clause-counted
 returns-in-Ok-clause-counted g c =
     let told = take c.next_many.result c.next_many.new.reports in
     let few : length told ≤ most_reports (program_of c.args.self.now) =
-    few_given c.args.style c.args.row.now told c.args.self.now c.try_take.new.self c.next_many.new.self c.represents.ensures c.in-Ok.ensures.takes c.in-Ok.ensures.few c.next_many.ensures.returns in
+    few_given c.args.style c.args.row.now told c.args.self.now c.try_take.new.self c.next_many.new.self c.in-Ok.ensures.represents c.in-Ok.ensures.takes c.in-Ok.ensures.few c.next_many.ensures.returns in
     let same = ap (λ (p : Program). length p.outs) c.in-Ok.ensures.takes.program in
     omega (arith, few, same, length-take c.next_many.result c.next_many.new.reports, c.try_take.ensures.counted, c.next_many.ensures.counted)

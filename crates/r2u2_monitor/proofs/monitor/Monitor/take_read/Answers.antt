@@ -1,15 +1,17 @@
 use Rattle.std.proofs.Common.{◌<◌, ◌^◌, length, ap, refl, subst, sym, ◌∙◌}
 use Rattle.trace_feed.specs.Readings.{readings_of}
 use Rattle.r2u2_monitor.specs.declared.state.State.{State}
+use Rattle.r2u2_monitor.specs.Kept.{state_of}
 use Rattle.r2u2_monitor.proofs.Keeping.{sound_after}
 use Rattle.r2u2_monitor.proofs.monitor.Monitor.take_read.Goals as goal
 
 pub invariant_of-self : goal.invariant_of-self
 invariant_of-self g c =
-    let monitor : State = c.self.inside.state in
+    let monitor : State = state_of c.self.inside in
     let early : monitor.running.taken < 2 ^ 40 = subst (λ (m : State). m.running.taken < 2 ^ 40) (sym c.self.view_is) c.requires.early in
-    let sound = c.self.invariant.0 in (
-      sound_after monitor (record { running = c.take.new.self; last = c.swap.new.x; read = c.swap.new.y }) c.swap.new.x sound (rw c.as_slice.ensures at c.take.ensures.takes) early refl c.take.ensures.numbers (ap length c.swap.ensures.x_after ∙ sound.read_wide) (ap length c.swap.ensures.y_after ∙ sound.last_wide),
-      λ rows future past count known. c.start-self-inside.ensures c.take.new.self.checked rows c.take.new.self.outs,
-      c.self.invariant.2 ∙ ap readings_of (sym c.take.ensures.takes.program),
-    )
+    let sound = c.self.invariant.sound in
+    record {
+      sound = sound_after monitor (record { running = c.take.new.self; last = c.swap.new.x; read = c.swap.new.y }) c.swap.new.x sound (rw c.as_slice.ensures at c.take.ensures.takes) early refl c.take.ensures.numbers (ap length c.swap.ensures.x_after ∙ sound.read_wide) (ap length c.swap.ensures.y_after ∙ sound.last_wide);
+      resumes = λ rows future past count known. c.start-self-inside.ensures c.take.new.self.checked rows c.take.new.self.outs;
+      readings = c.self.invariant.readings ∙ ap readings_of (sym c.take.ensures.takes.program);
+    }

@@ -18,11 +18,14 @@ next-requires-clause-early g c = omega (arith, c.requires.early, ap (λ (r : Run
 
 pub returns-in-None-clause-yields : goal.returns-in-None-clause-yields
 returns-in-None-clause-yields g c =
-    subst (YieldsMany c.args.style (take c.loop-k.k c.loop-k.reports) c.args.self.now) (sym (c.in-None.ensures.none refl)) c.loop-k.invariant.yields
+    subst (YieldsMany c.args.style (take c.loop-k.k c.loop-k.reports) c.args.self.now) (sym (c.in-None.ensures.yields.none refl)) c.loop-k.invariant.yields
+
+pub returns-in-None-clause-written : goal.returns-in-None-clause-written
+returns-in-None-clause-written g c = record { within = omega arith; rest = c.loop-k.invariant.rest }
 
 pub returns-in-None-clause-drained : goal.returns-in-None-clause-drained
 returns-in-None-clause-drained g c = λ fewer.
-    subst IsDrained (sym (c.in-None.ensures.none refl)) (drained_in_all c.loop-k.self c.args.style (λ rows taken. c.in-None.ensures.first rows taken))
+    subst IsDrained (sym (c.in-None.ensures.yields.none refl)) (drained_in_all c.loop-k.self c.args.style c.in-None.ensures.yields.first)
 
 pub returns-in-None-clause-counted : goal.returns-in-None-clause-counted
 returns-in-None-clause-counted g c =
@@ -37,8 +40,7 @@ loop-k-preserved g c =
     let outs : length c.loop-k.self.checked.outs ≡ length c.args.self.now.checked.outs = ap (λ (r : Running). length r.checked.outs) c.loop-k.invariant.yields.moved in
     record {
       yields = rw (take_more_set reports k c.in-Some.report inside)
-          (yields_more c.args.style (take k reports) c.in-Some.report c.args.self.now c.loop-k.self c.next.new.self c.loop-k.invariant.yields
-          c.in-Some.ensures.given c.in-Some.ensures.first c.in-Some.ensures.stands);
+          (yields_more c.args.style (take k reports) c.in-Some.report c.args.self.now c.loop-k.self c.next.new.self c.loop-k.invariant.yields c.in-Some.ensures.yields);
       cursor = c.in-Some.ensures.cursor;
       rest = drop-set-lt (k + 1) reports k c.in-Some.report (omega arith) ∙ drop_more_same reports c.args.reports.now k c.loop-k.invariant.rest;
       counted = omega (arith, c.loop-k.invariant.counted, c.in-Some.ensures.counted, outs);

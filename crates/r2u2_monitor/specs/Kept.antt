@@ -1,0 +1,18 @@
+-- What the fields of a monitor hold.
+
+use Rattle.std.specs.Prelude.{◌≡◌}
+use Rattle.trace_feed.specs.Readings.{readings_of}
+use Rattle.r2u2_monitor.specs.declared.monitor.Monitor.TheInside.{Inside as MonitorFields}
+use Rattle.r2u2_monitor.specs.declared.state.State.{State}
+use Rattle.r2u2_monitor.specs.Monitoring.{MonitorIsSound}
+use Rattle.r2u2_monitor.specs.Running.{ResumesAt}
+
+-- what contracts see of them
+abbrev pub state_of : MonitorFields → State
+state_of monitor = record { running = monitor.running; last = monitor.last; read = monitor.read }
+
+-- a sound monitor, the cursor at which its search goes on, and how its program reads each column
+pub record IsKept (monitor : MonitorFields) : Type 0 where
+  pub sound : MonitorIsSound (state_of monitor)
+  pub resumes : ResumesAt monitor.running monitor.cursor
+  pub readings : monitor.readings ≡ readings_of monitor.running.checked
