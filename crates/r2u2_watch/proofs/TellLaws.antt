@@ -1,7 +1,7 @@
 -- The lines of reports, told one after another.
 
 use Rattle.std.proofs.Common.{◌≡◌, ℕ, ◌+◌, ◌-◌, ◌≤◌, arith, replicate, List, [], ◌∷◌, ◌++◌, Bool, true, false, map, refl, sym, ◌∙◌, ap, subst, append_assoc}
-use Rattle.std.specs.Prelude.{⊤}
+use Rattle.std.specs.Prelude.{⊤, IsTrue}
 use Rattle.std.specs.List.{concat}
 use Rattle.std.specs.declared.ops.ControlFlow.{ControlFlow}
 use Rattle.std.specs.declared.ops.ControlFlow.TheVariants.{Continue, Break}
@@ -27,7 +27,7 @@ use Rattle.r2u2_monitor.specs.Monitoring.{program_of, open_in, Stands, TakesRow}
 use Rattle.r2u2_watch.specs.declared.status.Watched.{Watched}
 use Rattle.r2u2_watch.specs.declared.status.Watched.TheVariants.{Done, TooLong, BadTrace, ReadFault, WriteFault}
 use Rattle.r2u2_watch.specs.Watch.{HasTold, WatchCause}
-use Rattle.r2u2_watch.specs.Telling.{FlushCause, Flushes, IfGoesOn, OwesHeld, StepCause, HasSent, SendsAll, SendsBut, SendsHeld, SendsText, OnceOut, OwesRows, IsDrainedIf, text_after, TellsAll, TakesFront, TellsFront, TellsRows}
+use Rattle.r2u2_watch.specs.Telling.{Flushes, GoesOn, GoesOnCause, IfGoesOn, OwesHeld, StepCause, HasSent, SendsAll, SendsBut, SendsText, OnceOut, OwesRows, IsDrainedIf, text_after, TellsAll, TakesFront, TellsFront, TellsRows}
 
 pub HasSent-none : (due : List ℕ) → HasSent due due []
 HasSent-none due = record { sent = []; writes = Writes-none Out; split = refl }
@@ -48,9 +48,14 @@ HasSent-all due left first second a b = subst (λ bytes. Writes Out bytes (first
 pub HasSent-rest : (due left : List ℕ) (first second : List Event) → HasSent due left first → WritesFront Out left second → WritesFront Out due (first ++ second)
 HasSent-rest due left first second a b = subst (λ bytes. WritesFront Out bytes (first ++ second)) (sym a.split) (WritesFront-then Out a.sent left first second a.writes b)
 
-pub sends_rest : (whole : Bool) (due left : List ℕ) (first second : List Event) → HasSent due left first → SendsHeld whole left second → SendsText whole due (first ++ second)
-sends_rest true due left first second a b = HasSent-all due left first second a b.writes
-sends_rest false due left first second a b = HasSent-rest due left first second a b
+-- where nothing is left, all went out
+writes_all : (held left : List ℕ) (events : List Event) → HasSent held left events → left ≡ [] → Writes Out held events
+writes_all held left events a none = subst (λ bytes. Writes Out bytes events) (sym (a.split ∙ ap (λ bytes. a.sent ++ bytes) none ∙ append-nil a.sent)) a.writes
+
+-- what was left went out, and nothing is left now
+pub sends_rest : (whole : Bool) (due between left : List ℕ) (first second : List Event) → HasSent due between first → Flushes whole between left second → (IsTrue whole → left ≡ []) → SendsText whole due (first ++ second)
+sends_rest true due between left first second a b none = HasSent-all due between first second a (writes_all between left second b.sends (none refl))
+sends_rest false due between left first second a b none = HasSent-rest due between first second a b
 
 -- a prefix of some bytes is one of more bytes
 pub front_longer : (piece rest : List ℕ) (events : List Event) → WritesFront Out piece events → WritesFront Out (piece ++ rest) events
@@ -242,9 +247,9 @@ TellsFront-held program style rows row done times monitor events within a =
     subst (λ all. TellsFront program style rows all monitor events) (replicate-append-replicate done (times - done) row ∙ ap (λ n. replicate n row) sum) (TellsFront-more program style rows (replicate done row) (replicate (times - done) row) monitor events a)
 
 -- what is held was written before the loop goes on, so what holds once it is out holds
-pub flushed : (P : ControlFlow Watched ⊤ → List Event → Type 0) (flow result : ControlFlow Watched ⊤) (held left : List ℕ) (first second : List Event) → OwesHeld P flow held first → Flushes flow result held left second → IfGoesOn result (left ≡ []) → P result (first ++ second)
+pub flushed : (P : ControlFlow Watched ⊤ → List Event → Type 0) (flow result : ControlFlow Watched ⊤) (held left : List ℕ) (first second : List Event) → OwesHeld P flow held first → GoesOn flow result held left second → IfGoesOn result (left ≡ []) → P result (first ++ second)
 flushed P (Continue u) (Continue v) held left first second owes sends none =
-    owes.all second (record { writes = subst (λ bytes. Writes Out bytes second) (sym (sends.sends.split ∙ ap (λ bytes. sends.sends.sent ++ bytes) none ∙ append-nil sends.sends.sent)) sends.sends.writes; quiet = sends.quiet })
+    owes.all second (record { writes = writes_all held left second sends.sends none; quiet = sends.quiet })
 flushed P (Continue u) (Break WriteFault) held left first second owes front none = owes.front second front
 flushed P (Break answer) (Break told) held left first second owes ends none =
     subst (λ a. P (Break a) (first ++ second)) (sym ends.0) (subst (P (Break answer)) (sym (ap (λ w. first ++ w) ends.1 ∙ append-nil first)) owes)
@@ -259,7 +264,7 @@ cause_then ReadFault before between now a b = RoseAt-before before between now T
 cause_then WriteFault before between now a b = RoseAt-before before between now Out a b
 
 -- and the counts that rose
-pub flush_cause : (flow result : ControlFlow Watched ⊤) (held left : List ℕ) (second : List Event) (before between now : Place → ℕ) → Flushes flow result held left second → StepCause flow before between → FlushCause flow result between now → StepCause result before now
+pub flush_cause : (flow result : ControlFlow Watched ⊤) (held left : List ℕ) (second : List Event) (before between now : Place → ℕ) → GoesOn flow result held left second → StepCause flow before between → GoesOnCause flow result between now → StepCause result before now
 flush_cause (Continue u) (Continue v) held left second before between now flushes a b = NoFault-then before between now a b
 flush_cause (Continue u) (Break WriteFault) held left second before between now flushes a b = RoseAt-after before between now Out a b
 flush_cause (Break answer) (Break told) held left second before between now flushes a b =

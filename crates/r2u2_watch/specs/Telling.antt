@@ -67,22 +67,27 @@ IfEnds (Continue u) P = ⊤
 IfEnds (Break WriteFault) P = ⊤
 IfEnds (Break answer) P = P
 
--- where the loop goes on, all but what is left went out, by no write where there was nothing
+-- all of what is held but what is left went out, by no write where there was nothing
 pub record SendsSome (held left : List ℕ) (events : List Event) : Type 0 where
   pub sends : HasSent held left events
   pub quiet : held ≡ [] → events ≡ []
 
+-- so it did, or no more than a prefix of what is held went out
+abbrev pub Flushes : Bool → List ℕ → List ℕ → List Event → Type 0
+Flushes true held left events = SendsSome held left events
+Flushes false held left events = WritesFront Out held events
+
 -- how the loop goes on or ends after what is held was written, by how it would have before
-abbrev pub Flushes : ControlFlow Watched ⊤ → ControlFlow Watched ⊤ → List ℕ → List ℕ → List Event → Type 0
-Flushes (Continue u) (Continue v) held left events = SendsSome held left events
-Flushes (Continue u) (Break WriteFault) held left events = WritesFront Out held events
-Flushes (Break answer) (Break told) held left events = (told ≡ answer) × (events ≡ [])
-Flushes flow result held left events = ⊥
+abbrev pub GoesOn : ControlFlow Watched ⊤ → ControlFlow Watched ⊤ → List ℕ → List ℕ → List Event → Type 0
+GoesOn (Continue u) (Continue v) held left events = SendsSome held left events
+GoesOn (Continue u) (Break WriteFault) held left events = WritesFront Out held events
+GoesOn (Break answer) (Break told) held left events = (told ≡ answer) × (events ≡ [])
+GoesOn flow result held left events = ⊥
 
 -- only a failed write of what is held changes a count then, that of Out by one
-abbrev pub FlushCause : ControlFlow Watched ⊤ → ControlFlow Watched ⊤ → (Place → ℕ) → (Place → ℕ) → Type 0
-FlushCause (Continue u) (Break answer) before now = RoseAt before now Out
-FlushCause flow result before now = NoFault before now
+abbrev pub GoesOnCause : ControlFlow Watched ⊤ → ControlFlow Watched ⊤ → (Place → ℕ) → (Place → ℕ) → Type 0
+GoesOnCause (Continue u) (Break answer) before now = RoseAt before now Out
+GoesOnCause flow result before now = NoFault before now
 
 -- a write that failed raised the count of Out by one, and nothing else changes a count
 abbrev pub TellCause : Bool → (Place → ℕ) → (Place → ℕ) → Type 0
@@ -98,6 +103,16 @@ StepCause (Break answer) before now = WatchCause answer before now
 abbrev pub IsDrainedIf : Bool → State → Type 0
 IsDrainedIf true monitor = IsDrained monitor
 IsDrainedIf false monitor = ⊤
+
+-- a monitor has nothing to report, and no line is held
+pub record IsClear (monitor : State) (held : List ℕ) : Type 0 where
+  pub drained : IsDrained monitor
+  pub none : held ≡ []
+
+-- so it is where all went out
+abbrev pub IsClearIf : Bool → State → List ℕ → Type 0
+IsClearIf true monitor held = IsClear monitor held
+IsClearIf false monitor held = ⊤
 
 -- the lines of further rows
 abbrev pub text_after : Program → Style → List Row → List Row → List ℕ
@@ -143,7 +158,7 @@ pub record WritesNone (program : Program) (rows : List Row) (monitor : State) (e
   pub none : events ≡ []
   pub told : HasTold program monitor rows
 
--- where all went out, the monitor has taken this many more rows, and has nothing to report
-abbrev pub HasHeld : Bool → ℕ → State → State → Type 0
-HasHeld true times before after = (taken_by after ≡ taken_by before + times) × IsDrained after
-HasHeld false times before after = ⊤
+-- where all went out, the monitor has taken this many more rows, and nothing is left
+abbrev pub HasHeld : Bool → ℕ → State → State → List ℕ → Type 0
+HasHeld true times before after held = (taken_by after ≡ taken_by before + times) × IsClear after held
+HasHeld false times before after held = ⊤

@@ -6,9 +6,9 @@ ghost use Rattle.mltl_base.specs.Atoms.{Row};
 ghost use Rattle.mltl_base.specs.Lines.{line, lines_of_reports};
 ghost use Rattle.mltl_base.specs.Programs.{output_names};
 ghost use Rattle.tool_io.specs.Log.{OnLog};
-ghost use Rattle.r2u2_monitor.specs.Monitoring.{program_of, taken_by, last_of, read_of, IsDrained, Stands, open_in};
+ghost use Rattle.r2u2_monitor.specs.Monitoring.{program_of, taken_by, last_of, read_of, Stands, open_in};
 ghost use Rattle.r2u2_watch.specs.Endings.{told_as};
-ghost use Rattle.r2u2_watch.specs.Telling.{FlushCause, Flushes, HasHeld, IfEnds, IfGoesOn, IsDrainedIf, OwesRows, SendsBut, SendsHeld, SendsText, TellCause, TellsRows};
+ghost use Rattle.r2u2_watch.specs.Telling.{Flushes, GoesOn, GoesOnCause, HasHeld, IfEnds, IfGoesOn, IsClear, IsClearIf, IsDrainedIf, OwesRows, SendsBut, SendsHeld, SendsText, TellCause, TellsRows};
 ghost use Rattle.r2u2_watch.specs.Turns.{CanTake, rows_found};
 
 use crate::status::Ending;
@@ -109,25 +109,35 @@ fn draft<H: Host>(monitor: &mut Monitor, host: &mut H, held: &mut Held, style: S
     true
 }
 
-/// Writes the lines of all open reports. Returns whether every line was written.
-fn tell<H: Host>(monitor: &mut Monitor, host: &mut H, style: Style) -> bool
+/// Writes what is held, at the end of a row: its lines are out before another row is taken, and before the trace is
+/// read on. Returns whether all of it was written.
+#[inline(always)]
+fn flush<H: Host>(host: &mut H, held: &mut Held) -> bool
+    ensures cause { TellCause result (H.faults host.old) (H.faults host.new) }
+    ensures log { OnLog (H.log host.old) (H.log host.new) (Flushes result held.old held.new) }
+    ensures prompt { IsTrue result → held.new ≡ [] }
+{
+    send(host, held)
+}
+
+/// Writes the lines of all open reports after what is held. Returns whether every line was written.
+fn tell<H: Host>(monitor: &mut Monitor, host: &mut H, held: &mut Held, style: Style) -> bool
     ensures cause { TellCause result (H.faults host.old) (H.faults host.new) }
     ensures log { (rows : List Row) → Stands monitor.old rows
-        → OnLog (H.log host.old) (H.log host.new) (SendsText result
-        (lines_of_reports (output_names (program_of monitor.old))
+        → OnLog (H.log host.old) (H.log host.new) (SendsText result (held.old
+        ++ lines_of_reports (output_names (program_of monitor.old))
         (open_in style monitor.old rows))) }
     ensures stands { (rows : List Row) → Stands monitor.old rows → Stands monitor.new rows }
     ensures program { program_of monitor.new ≡ program_of monitor.old }
     ensures as_many { taken_by monitor.new ≡ taken_by monitor.old }
     ensures last { last_of monitor.new ≡ last_of monitor.old }
     ensures read { read_of monitor.new ≡ read_of monitor.old }
-    ensures drained { IsDrainedIf result monitor.new }
+    ensures clear { IsClearIf result monitor.new held.new }
 {
-    let mut held = Held::new();
-    if !draft(monitor, host, &mut held, style) {
+    if !draft(monitor, host, held, style) {
         return false;
     }
-    send(host, &mut held)
+    flush(host, held)
 }
 
 /// Takes the last row `copies` more times, and writes the lines of each. Returns whether every line was written.
@@ -136,9 +146,10 @@ fn hold<H: Host, L: Ledger>(
     host: &mut H,
     times: u64,
     style: Style,
+    held: &mut Held,
     steps: &mut Steps<L>,
 ) -> bool
-    requires drained { IsDrained monitor.old }
+    requires clear { IsClear monitor.old held.old }
     requires begun { 0 < times → 0 < taken_by monitor.old }
     requires early { taken_by monitor.old + times ≤ MAX_MISSION }
     ensures cause { TellCause result (H.faults host.old) (H.faults host.new) }
@@ -148,11 +159,11 @@ fn hold<H: Host, L: Ledger>(
         (replicate times (last_of monitor.old)) monitor.new) }
     ensures read { read_of monitor.new ≡ read_of monitor.old }
     ensures program { program_of monitor.new ≡ program_of monitor.old }
-    ensures held { HasHeld result times monitor.old monitor.new }
+    ensures held { HasHeld result times monitor.old monitor.new held.new }
 {
     for done in 0..times {
         monitor.repeat_last(steps);
-        if !tell(monitor, host, style) {
+        if !tell(monitor, host, held, style) {
             return false;
         }
     }
@@ -170,8 +181,7 @@ pub(crate) fn take_after<H: Host, L: Ledger>(
     steps: &mut Steps<L>,
 ) -> bool
     requires ready { CanTake copies monitor.old }
-    requires drained { IsDrained monitor.old }
-    requires none { held.old ≡ [] }
+    requires clear { IsClear monitor.old held.old }
     ensures cause { TellCause result (H.faults host.old) (H.faults host.new) }
     ensures log { (rows : List Row) → Stands monitor.old rows
         → OnLog (H.log host.old) (H.log host.new)
@@ -179,7 +189,7 @@ pub(crate) fn take_after<H: Host, L: Ledger>(
         (rows_found copies monitor.old monitor.old) held.new monitor.new) }
     ensures program { program_of monitor.new ≡ program_of monitor.old }
 {
-    if !hold(monitor, host, copies, style, steps) {
+    if !hold(monitor, host, copies, style, held, steps) {
         return false;
     }
     monitor.take_read(steps);
@@ -188,20 +198,20 @@ pub(crate) fn take_after<H: Host, L: Ledger>(
 
 /// Writes what is held, where the loop goes on: the trace is read next. Returns how the loop goes on or ends.
 #[inline(always)]
-pub(crate) fn flush<H: Host>(
+pub(crate) fn go_on<H: Host>(
     host: &mut H,
     held: &mut Held,
     flow: ControlFlow<Ending, ()>,
 ) -> ControlFlow<Ending, ()>
     requires none { IfEnds (told_as flow) (held.old ≡ []) }
-    ensures cause { FlushCause (told_as flow) (told_as result)
+    ensures cause { GoesOnCause (told_as flow) (told_as result)
         (H.faults host.old) (H.faults host.new) }
     ensures log { OnLog (H.log host.old) (H.log host.new)
-        (Flushes (told_as flow) (told_as result) held.old held.new) }
+        (GoesOn (told_as flow) (told_as result) held.old held.new) }
     ensures prompt { IfGoesOn (told_as result) (held.new ≡ []) }
 {
     if let Continue(()) = flow {
-        if !send(host, held) {
+        if !flush(host, held) {
             return Break(Ending::WriteFault);
         }
     }

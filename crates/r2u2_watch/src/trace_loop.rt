@@ -13,7 +13,7 @@ ghost use Rattle.r2u2_watch.specs.Turns.{CanTake, Finds, IfRow, IsAtStart, IsRea
 
 use crate::Watched;
 use crate::reader::{Found, Reader, read_fields, read_stamped};
-use crate::report_lines::{Held, flush, take_after};
+use crate::report_lines::{Held, go_on, take_after};
 use crate::status::{Ending, LineFault};
 use mltl_base::Style;
 use mltl_base::steps::Steps;
@@ -205,7 +205,7 @@ impl Course {
         ensures program { program_of monitor.new ≡ program_of monitor.old }
     {
         let flow = self.advance(monitor, cut, host, held, steps);
-        flush(host, held, flow)
+        go_on(host, held, flow)
     }
 }
 

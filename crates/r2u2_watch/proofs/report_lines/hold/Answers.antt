@@ -2,8 +2,10 @@ use Rattle.std.proofs.Common.{◌≡◌, ◌∙◌, ◌+◌, ◌++◌, ◌∷◌
 use Rattle.std.proofs.lemmas.List.{replicate_more}
 use Rattle.tool_io.proofs.HostLaws.{NoFault-then}
 use Rattle.tool_io.proofs.LogLaws.{OnLog-none, OnLog-map, Appends-then}
-use Rattle.r2u2_monitor.specs.Monitoring.{program_of, last_of}
-use Rattle.r2u2_watch.specs.Telling.{TellsAll, TellsRows}
+use Rattle.mltl_base.specs.Lines.{lines_of_reports}
+use Rattle.mltl_base.specs.Programs.{output_names}
+use Rattle.r2u2_monitor.specs.Monitoring.{program_of, last_of, open_in}
+use Rattle.r2u2_watch.specs.Telling.{SendsText, TellsAll, TellsRows}
 use Rattle.r2u2_watch.proofs.TellLaws.{TellsAll-none, TellsRows-one, TellsFront-held}
 use Rattle.r2u2_watch.proofs.report_lines.hold.Goals as goal
 
@@ -14,8 +16,8 @@ loop-done-init g c = record {
   taken = omega arith;
   last = refl;
   read = refl;
-  drained = c.requires.drained;
-  log = λ rows stands. OnLog-none _ _ (TellsAll-none _ _ rows _ (record { program_kept = refl; stands = stands; drained = c.requires.drained }));
+  clear = c.requires.clear;
+  log = λ rows stands. OnLog-none _ _ (TellsAll-none _ _ rows _ (record { program_kept = refl; stands = stands; drained = c.requires.clear.drained }));
 }
 
 pub returns-then-not-tell-clause-log : goal.returns-then-not-tell-clause-log
@@ -28,7 +30,9 @@ returns-then-not-tell-clause-log g c rows stands =
     let program = program_of c.args.monitor.now in
     let takes = c.repeat_last.ensures.takes in
     let told = c.if-not-tell.ensures.log ((rows ++ copies) ++ last ∷ []) (takes.stands (rows ++ copies) log.holds.told.stands) in
-    let front : TellsRows false program c.args.style rows (copies ++ last ∷ []) c.tell.new.monitor (log.events ++ told.events) = TellsRows-one false program c.args.style rows copies last c.loop-done.monitor c.repeat_last.new.self c.tell.new.monitor log.events told.events log.holds takes told.holds c.if-not-tell.ensures.program (c.if-not-tell.ensures.stands ((rows ++ copies) ++ last ∷ [])) tt in
+    let text = lines_of_reports (output_names (program_of c.repeat_last.new.self)) (open_in c.args.style c.repeat_last.new.self ((rows ++ copies) ++ last ∷ [])) in
+    let sends = subst (λ before. SendsText false (before ++ text) told.events) was.clear.none told.holds in
+    let front : TellsRows false program c.args.style rows (copies ++ last ∷ []) c.tell.new.monitor (log.events ++ told.events) = TellsRows-one false program c.args.style rows copies last c.loop-done.monitor c.repeat_last.new.self c.tell.new.monitor log.events told.events log.holds takes sends c.if-not-tell.ensures.program (c.if-not-tell.ensures.stands ((rows ++ copies) ++ last ∷ [])) tt in
     record {
       events = log.events ++ told.events;
       appended = Appends-then _ _ _ log.events told.events log.appended told.appended;
@@ -50,11 +54,13 @@ loop-done-preserved g c =
       taken = omega (arith, c.if-not-tell.ensures.as_many, takes.taken, was.taken);
       last = c.if-not-tell.ensures.last ∙ takes.last ∙ was.last;
       read = c.if-not-tell.ensures.read ∙ c.repeat_last.ensures.read ∙ was.read;
-      drained = c.if-not-tell.ensures.drained;
+      clear = c.if-not-tell.ensures.clear;
       log = λ rows stands.
           let log = was.log rows stands in
           let told = c.if-not-tell.ensures.log ((rows ++ copies) ++ last ∷ []) (takes.stands (rows ++ copies) log.holds.told.stands) in
-          let all : TellsRows true program c.args.style rows (copies ++ last ∷ []) c.tell.new.monitor (log.events ++ told.events) = TellsRows-one true program c.args.style rows copies last c.loop-done.monitor c.repeat_last.new.self c.tell.new.monitor log.events told.events log.holds takes told.holds c.if-not-tell.ensures.program (c.if-not-tell.ensures.stands ((rows ++ copies) ++ last ∷ [])) c.if-not-tell.ensures.drained in
+          let text = lines_of_reports (output_names (program_of c.repeat_last.new.self)) (open_in c.args.style c.repeat_last.new.self ((rows ++ copies) ++ last ∷ [])) in
+          let sends = subst (λ before. SendsText true (before ++ text) told.events) was.clear.none told.holds in
+          let all : TellsRows true program c.args.style rows (copies ++ last ∷ []) c.tell.new.monitor (log.events ++ told.events) = TellsRows-one true program c.args.style rows copies last c.loop-done.monitor c.repeat_last.new.self c.tell.new.monitor log.events told.events log.holds takes sends c.if-not-tell.ensures.program (c.if-not-tell.ensures.stands ((rows ++ copies) ++ last ∷ [])) c.if-not-tell.ensures.clear.drained in
           record {
             events = log.events ++ told.events;
             appended = Appends-then _ _ _ log.events told.events log.appended told.appended;

@@ -21,7 +21,7 @@ returns-clause-log g c rows stands =
     let all_rows = (rows ++ copies) ++ read ∷ [] in
     let told = c.draft.ensures.log all_rows (takes.stands (rows ++ copies) held.holds.told.stands) in
     let text = lines_of_reports (output_names (program_of c.take_read.new.self)) (open_in c.args.style c.take_read.new.self all_rows) in
-    let sends = subst (λ before. SendsBut c.draft.result (before ++ text) c.draft.new.held told.events) c.requires.none told.holds in
+    let sends = subst (λ before. SendsBut c.draft.result (before ++ text) c.draft.new.held told.events) c.if-not-hold.ensures.held.1.none told.holds in
     record {
       events = held.events ++ told.events;
       appended = Appends-then _ _ _ held.events told.events held.appended told.appended;
