@@ -38,10 +38,9 @@ nothing_stored = record { name = []; truth = false; column = 0 }
 
 stored_at : (signals : List Signal) (columns : List ℕ) (i : ℕ) (d : StoredSignal) → length columns ≡ length signals → i < length signals →
     slice_index_or (stored_signals signals columns) i d ≡ stored (slice_index_or signals i no_signal, slice_index columns i)
-stored_at [] columns i d same inside = absurd (omega arith)
-stored_at (s ∷ signals) [] i d same inside = absurd (omega arith)
 stored_at (s ∷ signals) (c ∷ columns) zero d same inside = refl
 stored_at (s ∷ signals) (c ∷ columns) (suc i) d same inside = stored_at signals columns i d (omega arith) (omega arith)
+stored_at _ _ i d same inside = absurd (omega arith)
 
 pub length-stored_signals : (signals : List Signal) (columns : List ℕ) → length columns ≡ length signals → length (stored_signals signals columns) ≡ length signals
 length-stored_signals [] columns same = refl
@@ -51,10 +50,9 @@ length-stored_signals (s ∷ signals) (c ∷ columns) same = ap suc (length-stor
 -- one more signal
 pub stored_more : (signals : List Signal) (columns : List ℕ) (k : ℕ) → length columns ≡ length signals → k < length signals →
     stored_signals (take (suc k) signals) (take (suc k) columns) ≡ stored_signals (take k signals) (take k columns) ++ stored (slice_index_or signals k no_signal, slice_index columns k) ∷ []
-stored_more [] columns k same inside = absurd (omega arith)
-stored_more (s ∷ signals) [] k same inside = absurd (omega arith)
 stored_more (s ∷ signals) (c ∷ columns) zero same inside = refl
 stored_more (s ∷ signals) (c ∷ columns) (suc k) same inside = ap (◌∷◌ (stored (s, c))) (stored_more signals columns k (omega arith) (omega arith))
+stored_more _ _ k same inside = absurd (omega arith)
 
 same_kind : (b t : Bool) → t ≡ b → (if b then t else not t) ≡ true
 same_kind true t h = h

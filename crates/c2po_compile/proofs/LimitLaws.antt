@@ -45,10 +45,8 @@ first_exceeded outs build.Memory h = tt
 
 -- where there is no refusal, slots and boxes are within their limit
 last_test : {A : Type 0} (nodes late slots : Bool) (x y z : A) → (if nodes then Some x else if late then Some y else if slots then Some z else None) ≡ None → slots ≡ false
-last_test true late slots x y z h = absurd (cc)
-last_test false true slots x y z h = absurd (cc)
-last_test false false true x y z h = absurd (cc)
 last_test false false false x y z h = refl
+last_test _ _ _ x y z h = absurd (cc)
 
 pub none_fits : (outs : List Asked) → limit_refusal outs ≡ None → slots_needed outs ≤ MAX_SLOTS
 unfolding limit_refusal

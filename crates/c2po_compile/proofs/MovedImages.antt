@@ -39,37 +39,32 @@ use Rattle.c2po_compile.proofs.TellingLaws.{tensed}
 moved_at : (signals : List Signal) (old new : List ℕ) (s : ℕ) → length old ≡ length signals → length new ≡ length signals → AreDifferent old → s < length signals
     → moved (stored_signals signals old) new (slice_index old s) ≡ slice_index new s
 unfolding moved
-moved_at [] old new s m n apart inside = absurd (omega arith)
-moved_at (x ∷ signals) [] new s m n apart inside = absurd (omega arith)
-moved_at (x ∷ signals) (c ∷ old) [] s m n apart inside = absurd (omega arith)
 moved_at (x ∷ signals) (c ∷ old) (d ∷ new) zero m n apart inside = rw (eq-eqb c c refl) refl
 moved_at (x ∷ signals) (c ∷ old) (d ∷ new) (suc s) m n apart inside =
     elim (eqb_tells c (slice_index old s)) [
       | inl p ↦ absurd (apart 0 (suc s) (omega arith) (omega arith) p.1)
       | inr p ↦ rw p.0 (moved_at signals old new s (omega arith) (omega arith) (λ i j less within. apart (suc i) (suc j) (omega arith) (omega arith)) (omega arith))
     ]
+moved_at _ _ _ s m n apart inside = absurd (omega arith)
 
 -- the columns that are stored
 pub stored_places : (signals : List Signal) (columns : List ℕ) → length columns ≡ length signals → map (λ signal. signal.column) (stored_signals signals columns) ≡ columns
 stored_places [] [] same = refl
-stored_places [] (c ∷ columns) same = absurd (omega arith)
-stored_places (s ∷ signals) [] same = absurd (omega arith)
 stored_places (s ∷ signals) (c ∷ columns) same = ap (λ cs. c ∷ cs) (stored_places signals columns (omega arith))
+stored_places _ _ same = absurd (omega arith)
 
 -- and names
 pub stored_names : (signals : List Signal) (columns : List ℕ) → length columns ≡ length signals → map (λ signal. signal.name) (stored_signals signals columns) ≡ map (λ signal. signal.name) signals
 stored_names [] [] same = refl
-stored_names [] (c ∷ columns) same = absurd (omega arith)
-stored_names (s ∷ signals) [] same = absurd (omega arith)
 stored_names (s ∷ signals) (c ∷ columns) same = ap (λ ns. s.name ∷ ns) (stored_names signals columns (omega arith))
+stored_names _ _ same = absurd (omega arith)
 
 -- signals in new columns are those stored there
 pub bound_stored : (signals : List Signal) (old new : List ℕ) → length old ≡ length signals → length new ≡ length signals → bound_signals (stored_signals signals old) new ≡ stored_signals signals new
 unfolding bound_signals
 bound_stored [] old new m n = refl
-bound_stored (s ∷ signals) [] new m n = absurd (omega arith)
-bound_stored (s ∷ signals) (c ∷ old) [] m n = absurd (omega arith)
 bound_stored (s ∷ signals) (c ∷ old) (d ∷ new) m n = ap (λ ss. record { name = s.name; truth = s.truth; column = d } ∷ ss) (bound_stored signals old new (omega arith) (omega arith))
+bound_stored _ _ _ m n = absurd (omega arith)
 
 -- ---- core forms over other columns
 
@@ -89,8 +84,6 @@ neg_of g p q h = neg_moved g p ∙ ap neg h
 
 core_moved : (g : ℕ → ℕ) (p : Formula) → moved_core g (core p) ≡ core (moved_formula g p)
 unfolding core moved_core moved_formula
-core_moved g truth = refl
-core_moved g falsity = refl
 core_moved g (atom a) = core_atom_moved g a
 core_moved g (negation p) = neg_of g (core p) _ (core_moved g p)
 core_moved g (conjunction p q) = ap₂ cand (core_moved g p) (core_moved g q)
@@ -107,6 +100,7 @@ core_moved g (release i p q) = neg_of g _ _ (ap₂ (cuntil i) (neg_of g (core p)
 core_moved g (once i p) = ap (csince i ctrue) (core_moved g p)
 core_moved g (historically i p) = neg_of g _ _ (ap (csince i ctrue) (neg_of g (core p) _ (core_moved g p)))
 core_moved g (since i p q) = ap₂ (csince i) (core_moved g p) (core_moved g q)
+core_moved g _ = refl
 
 -- ---- formulas of signals, over old columns and over new ones
 
@@ -134,8 +128,6 @@ module _ (g : ℕ → ℕ) (kinds : List Bool) (old new : List ℕ) (moves : (s 
 
   formula_new : (p : Formula) → ReadsKinds kinds p → moved_formula g (formula_over old p) ≡ formula_over new p
   unfolding moved_formula formula_over
-  formula_new truth h = refl
-  formula_new falsity h = refl
   formula_new (atom a) h = ap atom (atom_new a h)
   formula_new (negation p) h = ap negation (formula_new p h)
   formula_new (conjunction p q) h = ap₂ conjunction (formula_new p h.0) (formula_new q h.1)
@@ -149,6 +141,7 @@ module _ (g : ℕ → ℕ) (kinds : List Bool) (old new : List ℕ) (moves : (s 
   formula_new (once i p) h = ap (once i) (formula_new p h)
   formula_new (historically i p) h = ap (historically i) (formula_new p h)
   formula_new (since i p q) h = ap₂ (since i) (formula_new p h.0) (formula_new q h.1)
+  formula_new _ h = refl
 
   plain_new : (p : Formula) → ReadsKinds kinds p → moved_formula g (plain (core (formula_over old p))) ≡ plain (core (formula_over new p))
   plain_new p h =

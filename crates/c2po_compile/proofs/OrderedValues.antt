@@ -42,8 +42,7 @@ window_ordered _ a b p h = (omega arith, h)
 
 between_ordered : (op : BetweenOp) (a b : ℕ) (p q : Formula) → IsOrdered p → IsOrdered q → IsOrdered (ranged op (interval a b) p q)
 between_ordered U a b p q g h = (omega arith, (g, h))
-between_ordered R a b p q g h = (omega arith, (g, h))
-between_ordered S a b p q g h = (omega arith, (g, h))
+between_ordered _ a b p q g h = (omega arith, (g, h))
 
 upward_kept : Keeps Any AnyTerm IsOrdered
 upward_kept = record {
@@ -83,17 +82,13 @@ after_ordered : (body : BodyShape) (p : Place) → EnvOrdered p.values → EnvOr
 after_ordered (item.structure x fs) p h = declare_has AnyTerm IsOrdered x (fields (map (λ f. f.name) fs)) p.values tt h
 after_ordered (item.input xs t) p h = signals_ordered (body_signals (item.input xs t)) p.signals p.values h
 after_ordered (item.define x e) p h = declare_has AnyTerm IsOrdered x (value (value_of e p.values)) p.values (value_ordered e p.values h) h
-after_ordered (item.formula engine label e) p h = h
-after_ordered (item.contract engine label e f) p h = h
+after_ordered _ p h = h
 
 -- each formula of the output is ordered
 abbrev pub IsOrderedOutput : Asked → Type 0
 IsOrderedOutput asked = All IsOrdered (formulas_of asked.output)
 
 asked_ordered : (body : BodyShape) (p : Place) → EnvOrdered p.values → All IsOrderedOutput (asked_at body p)
-asked_ordered (item.structure x fs) p h = All-nil IsOrderedOutput
-asked_ordered (item.input xs t) p h = All-nil IsOrderedOutput
-asked_ordered (item.define x e) p h = All-nil IsOrderedOutput
 asked_ordered (item.formula engine label e) p h =
     let one = formula_ordered e p.values h in
     All-cons IsOrderedOutput _ [] (All-cons IsOrdered _ [] one (All-nil IsOrdered)) (All-nil IsOrderedOutput)
@@ -101,6 +96,7 @@ asked_ordered (item.contract engine label e f) p h =
     let left = formula_ordered e p.values h in
     let right = formula_ordered f p.values h in
     All-cons IsOrderedOutput _ [] (All-cons IsOrdered (formula_of (value_of e p.values)) (formula_of (value_of f p.values) ∷ []) left (All-cons IsOrdered (formula_of (value_of f p.values)) [] right (All-nil IsOrdered))) (All-nil IsOrderedOutput)
+asked_ordered _ p h = All-nil IsOrderedOutput
 
 items_ordered : (items : List ItemShape) (p : Place) → EnvOrdered p.values → All IsOrderedOutput (asked_from items p)
 unfolding asked_from

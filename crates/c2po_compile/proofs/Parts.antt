@@ -57,12 +57,7 @@ terms_all P (remainder a b) es d h = each_new P (whole (remainder a b)) _ (terms
 
 operands_all : (P : Expression → Type 0) (a : Atom) (es : List Expression) → InOperands P a → Each P es → Each P (add_operands a es)
 operands_all P (is_true c) es d h = h
-operands_all P (equal a b) es d h = terms_all P b _ d.1 (terms_all P a es d.0 h)
-operands_all P (less a b) es d h = terms_all P b _ d.1 (terms_all P a es d.0 h)
-operands_all P (at_most a b) es d h = terms_all P b _ d.1 (terms_all P a es d.0 h)
-operands_all P (different a b) es d h = terms_all P b _ d.1 (terms_all P a es d.0 h)
-operands_all P (greater a b) es d h = terms_all P b _ d.1 (terms_all P a es d.0 h)
-operands_all P (at_least a b) es d h = terms_all P b _ d.1 (terms_all P a es d.0 h)
+operands_all P _ es d h = terms_all P _ _ d.1 (terms_all P _ es d.0 h)
 
 expressions_all : (P : Expression → Type 0) (p : Core) (es : List Expression) → Deep (AtCore P) p → Each P es → Each P (add_expressions p es)
 unfolding add_expressions

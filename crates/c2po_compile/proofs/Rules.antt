@@ -87,18 +87,11 @@ module _ (program : Program) (all : List Expression) (kept : program.bz ≡ map 
     operands_hold (whole (column c)) h r = r.1
     operands_hold (whole (constant n)) h r = refl
     operands_hold (whole (negative a)) h r = whole_before a h
-    operands_hold (whole (plus a b)) h r = both_before a b h
-    operands_hold (whole (minus a b)) h r = both_before a b h
-    operands_hold (whole (times a b)) h r = both_before a b h
-    operands_hold (whole (quotient a b)) h r = both_before a b h
-    operands_hold (whole (remainder a b)) h r = both_before a b h
     operands_hold (truth (is_true c)) h r = r
-    operands_hold (truth (equal a b)) h r = both_before a b h
-    operands_hold (truth (less a b)) h r = both_before a b h
-    operands_hold (truth (at_most a b)) h r = both_before a b h
     operands_hold (truth (different a b)) h r = absurd h
     operands_hold (truth (greater a b)) h r = absurd h
     operands_hold (truth (at_least a b)) h r = absurd h
+    operands_hold _ h r = both_before _ _ h
 
 has_range : (i : ℕ) (r : Ranged) → why_none r ≡ None → no_range_fault i r ≡ None
 has_range i (Ok r) h = refl
@@ -140,7 +133,6 @@ window_holds i h = and_from _ _ (le-leb i.lo i.hi h.0) (le-leb i.hi 1048576 h.1)
 module _ (program : Program) (es : List Expression) (kept : program.bz ≡ map (bz_instruction es) es) where
   ft_here : (before rest : List Core) (p : Core) → Rattle.mltl_base.proofs.Unfolding.HasOperands before p → HasAtom es p → IsFit program p →
       ft_fault program (length before) (ft_instruction es (before ++ rest) p) ≡ None
-  ft_here before rest ctrue h a f = refl
   ft_here before rest (catom x) h a f = both_none _ _ (passes _ (Operand Ft (length before)) (truth_loaded program es kept x a)) refl
   ft_here before rest (cnot p) h a f = both_none _ _ (passes _ (Operand Ft (length before)) (place_before p before rest h)) refl
   ft_here before rest (cand p q) h a f =
@@ -148,11 +140,10 @@ module _ (program : Program) (es : List Expression) (kept : program.bz ≡ map (
   ft_here before rest (cuntil i p q) h a f =
       both_none _ _ (passes _ (Operand Ft (length before)) (and_from _ _ (place_before p before rest h.0) (place_before q before rest h.1)))
       (passes _ (BadInterval Ft (length before)) (window_holds i f))
-  ft_here before rest (csince i p q) h a f = refl
+  ft_here before rest _ h a f = refl
 
   pt_here : (before rest : List Core) (p : Core) → Rattle.mltl_base.proofs.Unfolding.HasOperands before p → HasAtom es p → IsFit program p →
       pt_fault program (length before) (pt_instruction es (before ++ rest) p) ≡ None
-  pt_here before rest ctrue h a f = refl
   pt_here before rest (catom x) h a f = both_none _ _ (passes _ (Operand Pt (length before)) (truth_loaded program es kept x a)) refl
   pt_here before rest (cnot p) h a f = both_none _ _ (passes _ (Operand Pt (length before)) (place_before p before rest h)) refl
   pt_here before rest (cand p q) h a f =
@@ -160,7 +151,7 @@ module _ (program : Program) (es : List Expression) (kept : program.bz ≡ map (
   pt_here before rest (csince i p q) h a f =
       both_none _ _ (passes _ (Operand Pt (length before)) (and_from _ _ (place_before p before rest h.0) (place_before q before rest h.1)))
       (passes _ (BadInterval Pt (length before)) (window_holds i f))
-  pt_here before rest (cuntil i p q) h a f = refl
+  pt_here before rest _ h a f = refl
 
   pub ft_none : (all before ps : List Core) → all ≡ before ++ ps → IsClosedAfter before ps → Each (HasAtom es) ps → Each (IsFit program) ps →
       first_in (ft_fault program) (length before) (map (ft_instruction es all) ps) ≡ None

@@ -75,10 +75,8 @@ plain_taken columns signals outs refusal exceeded =
 
 pub plain_is : (columns : Columns) (signals : List Signal) (outs : List Asked) (fault : BuildFault) (plain : Program) → IsReason (over_columns columns (simple_outputs outs)) fault
     → fault ≢ build.Memory → plain ≡ image columns signals outs → plain ≡ simple_image columns signals outs
-plain_is columns signals outs build.TooManyNodes plain why some is = is ∙ plain_taken columns signals outs _ (first_exceeded (over_columns columns (simple_outputs outs)) build.TooManyNodes why)
-plain_is columns signals outs build.TooLate plain why some is = is ∙ plain_taken columns signals outs _ (first_exceeded (over_columns columns (simple_outputs outs)) build.TooLate why)
-plain_is columns signals outs build.TooManySlots plain why some is = is ∙ plain_taken columns signals outs _ (first_exceeded (over_columns columns (simple_outputs outs)) build.TooManySlots why)
 plain_is columns signals outs build.Memory plain why some is = absurd (some refl)
+plain_is columns signals outs x plain why some is = is ∙ plain_taken columns signals outs _ (first_exceeded (over_columns columns (simple_outputs outs)) x why)
 
 -- ---- of a text
 
@@ -117,8 +115,7 @@ simple_found text header columns p h k =
 -- it is refused only where its image is
 found_refused : (signals : List Signal) (outs : List Asked) (columns : Result Columns HeaderFault) (found : Result Program CompileFault) (fault : CompileFault) → simplified signals outs columns found ≡ Err fault → found ≡ Err fault
 found_refused signals outs (Ok columns) (Ok plain) fault h = absurd (cc)
-found_refused signals outs (Ok columns) (Err other) fault h = h
-found_refused signals outs (Err why) found fault h = h
+found_refused signals outs _ _ fault h = h
 
 pub plain_refused : (text : List ℕ) (header : Option (List ℕ)) (fault : CompileFault) → simple_image_of_text text header ≡ Err fault → image_of_text text header ≡ Err fault
 unfolding simple_image_of_text

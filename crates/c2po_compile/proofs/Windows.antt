@@ -38,16 +38,11 @@ tree_windowed signals ts (Truth true) h f = tt
 tree_windowed signals ts (Truth false) h f = tt
 tree_windowed signals ts (Not a) h f = windowed_at ts a h
 tree_windowed signals ts (Logic logic.And a b) h f = (windowed_at ts a h, windowed_at ts b h)
-tree_windowed signals ts (Logic logic.Or a b) h f = (windowed_at ts a h, windowed_at ts b h)
-tree_windowed signals ts (Logic logic.Implies a b) h f = (windowed_at ts a h, windowed_at ts b h)
-tree_windowed signals ts (Logic logic.Iff a b) h f = (windowed_at ts a h, windowed_at ts b h)
+tree_windowed signals ts (Logic _ a b) h f = (windowed_at ts a h, windowed_at ts b h)
 tree_windowed signals ts (Window window.F i a) h f = (f.0, windowed_at ts a h)
-tree_windowed signals ts (Window window.G i a) h f = (f.0, windowed_at ts a h)
-tree_windowed signals ts (Window window.O i a) h f = (f.0, windowed_at ts a h)
-tree_windowed signals ts (Window window.H i a) h f = (f.0, windowed_at ts a h)
+tree_windowed signals ts (Window _ i a) h f = (f.0, windowed_at ts a h)
 tree_windowed signals ts (Between between.U i a b) h f = (f.0, windowed_at ts a h, windowed_at ts b h)
-tree_windowed signals ts (Between between.R i a b) h f = (f.0, windowed_at ts a h, windowed_at ts b h)
-tree_windowed signals ts (Between between.S i a b) h f = (f.0, windowed_at ts a h, windowed_at ts b h)
+tree_windowed signals ts (Between _ i a b) h f = (f.0, windowed_at ts a h, windowed_at ts b h)
 tree_windowed signals ts _ h f = tt
 
 first_windowed : (signals : ℕ) (nodes : List Plain) (n : ℕ) → AreSound signals nodes → n ≤ length nodes → AreWindowed (trees (take n nodes))

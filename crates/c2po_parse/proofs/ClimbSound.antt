@@ -59,24 +59,14 @@ pub right_level-low : (k : ℕ) → right_level k ≤ suc k
 right_level-low k = if-low (is_right_level k || is_prefix_level k) k
 
 implies-fits : (k : ℕ) → 2 < right_level k → 3 ≤ k
-implies-fits zero h = absurd (omega arith)
-implies-fits (suc zero) h = absurd (omega arith)
-implies-fits (suc (suc zero)) h = absurd (omega arith)
 implies-fits (suc (suc (suc k))) h = omega arith
+implies-fits _ h = absurd (omega arith)
 
 -- an operator that may follow a tree of level k takes it as its left operand
 left-fits : (op : Infix) (k : ℕ) → infix_level op < right_level k → left_level (infix_level op) ≤ k
-left-fits (Logic logic_op.Iff) k h = let r = right_level-low k in omega arith
 left-fits (Logic logic_op.Implies) k h = implies-fits k h
-left-fits (Logic logic_op.Or) k h = let r = right_level-low k in omega arith
-left-fits (Logic logic_op.And) k h = let r = right_level-low k in omega arith
-left-fits (Between o a b) k h = let r = right_level-low k in omega arith
-left-fits (Compare o) k h = let r = right_level-low k in omega arith
 left-fits (Arith arith_op.Add) k h = let r = right_level-low k in omega arith
-left-fits (Arith arith_op.Sub) k h = let r = right_level-low k in omega arith
-left-fits (Arith arith_op.Mul) k h = let r = right_level-low k in omega arith
-left-fits (Arith arith_op.Div) k h = let r = right_level-low k in omega arith
-left-fits (Arith arith_op.Rem) k h = let r = right_level-low k in omega arith
+left-fits _ k h = let r = right_level-low k in omega arith
 
 -- what each goal has read
 pub record WholeRead (l : ℕ) (ts : List Token) (e : Shape) (z : List Token) : Type 0 where

@@ -160,9 +160,8 @@ is-few n h = grind (arith, nat_tests)
 
 body-form : (s : Option Section) (line : ℕ) (ended : Bool) (ts : List Token) (b : BodyShape) → piece_body s ended ts ≡ Some b →
     HasForm (record { section = s; line = line; tokens = ts; ended = ended }) b
-body-form None line ended ts b h = absurd (cc)
 body-form (Some s) line true ts b h = record { section = s; is_in = refl; is_ended = refl; says = item-found s ts b h }
-body-form (Some s) line false ts b h = absurd (cc)
+body-form _ line _ ts b h = absurd (cc)
 
 form-body : (p : Statement) (b : BodyShape) → HasForm p b → piece_body p.section p.ended p.tokens ≡ Some b
 form-body p b form = rw (form.is_in, form.is_ended) (item-reads form.section p.tokens b form.says)

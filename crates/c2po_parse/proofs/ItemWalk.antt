@@ -63,13 +63,13 @@ record TypedRead (IsName : List ℕ → Type 0) (IsType : TypeShape → Type 0) 
   words : AllHave Has rest
 
 -- what is read of a type, of names and their type, and of a label
-abbrev set_done : TypeShape → List Token → Option (TypeShape × List Token)
+abbrev pub set_done : TypeShape → List Token → Option (TypeShape × List Token)
 set_done k ts = Some (set_of k, ts)
 
-abbrev typed_done : List (List ℕ) → TypeShape → List Token → Option (List (List ℕ) × TypeShape × List Token)
+abbrev pub typed_done : List (List ℕ) → TypeShape → List Token → Option (List (List ℕ) × TypeShape × List Token)
 typed_done xs k ts = Some (xs, k, ts)
 
-abbrev label_done : List ℕ → List Token → Option (List ℕ × List Token)
+abbrev pub label_done : List ℕ → List Token → Option (List ℕ × List Token)
 label_done x ts = Some (x, ts)
 
 -- A token that is a word has a name, types are made of names, and a tree of tokens has what they have.
@@ -128,10 +128,9 @@ module _ (Has : What → Type 0) (IsName : List ℕ → Type 0) (IsType : TypeSh
 
   type-names : (n : ℕ) (ts : List Token) (k : TypeShape) (rest : List Token) → type_within n ts ≡ Some (k, rest) → Words ts → Read Has (IsType k) rest
   unfolding type_within
-  type-names zero ts k rest h words = absurd (cc)
-  type-names (suc n) [] k rest h words = absurd (cc)
   type-names (suc n) (t ∷ ts) k rest h words =
       type_in-names n t.what ts k rest (λ us j vs is has. type-names n us j vs is has) (words-head Has t ts words) h (words-tail Has t ts words)
+  type-names _ _ k rest h words = absurd (cc)
 
   names-done : (xs ys : List (List ℕ)) (ts rest : List Token) → ◌≡◌ {A = Option (List (List ℕ) × List Token)} (Some (xs, ts)) (Some (ys, rest)) → Names xs →
       Words ts → Read Has (Names ys) rest
@@ -242,9 +241,8 @@ module _ (Has : What → Type 0) (IsName : List ℕ → Type 0) (IsType : TypeSh
       (record { has = label_is x.0.0 name.has; words = past-words sign.Colon x.0.1 colon.0 colon.1 name.words })
 
   take-words : (n : ℕ) (ts : List Token) → Words ts → Words (take n ts)
-  take-words zero ts words = words-nil Has
-  take-words (suc n) [] words = words-nil Has
   take-words (suc n) (t ∷ ts) words = words-cons Has t (take n ts) (words-head Has t ts words) (take-words n ts (words-tail Has t ts words))
+  take-words _ _ words = words-nil Has
 
   drop-words : (n : ℕ) (ts : List Token) → Words ts → Words (drop n ts)
   drop-words zero ts words = words
@@ -317,9 +315,8 @@ module _ (Has : What → Type 0) (IsName : List ℕ → Type 0) (IsType : TypeSh
       (words-append Has before (t ∷ []) words (words-cons Has t [] (words-head Has t ts rest) (words-nil Has))) tail)
 
   piece_body-names : (s : Option Section) (ended : Bool) (ts : List Token) (b : BodyShape) → piece_body s ended ts ≡ Some b → Words ts → Body b
-  piece_body-names None ended ts b h words = absurd (cc)
   piece_body-names (Some section) true ts b h words = body-names section ts b h words
-  piece_body-names (Some section) false ts b h words = absurd (cc)
+  piece_body-names _ _ ts b h words = absurd (cc)
 
   with_line-names : (line : ℕ) (v : Option BodyShape) (item : ItemShape) → ((b : BodyShape) → v ≡ Some b → Body b) → with_line line v ≡ Ok item →
       Body item.body
@@ -339,9 +336,8 @@ module _ (Has : What → Type 0) (IsName : List ℕ → Type 0) (IsType : TypeSh
   first-names : (r : Result ItemShape ParseFault) (others : Result (List ItemShape) ParseFault) (items : List ItemShape) →
       ((item : ItemShape) → r ≡ Ok item → Body item.body) → ((is : List ItemShape) → others ≡ Ok is → Items is) →
       first_or r others ≡ Ok items → Items items
-  first-names (Err fault) others items hr ho h = absurd (cc)
-  first-names (Ok item) (Err fault) items hr ho h = absurd (cc)
   first-names (Ok item) (Ok is) items hr ho h = let same : item ∷ is ≡ items = cc in subst Items same (hr item refl, ho is refl)
+  first-names _ _ items hr ho h = absurd (cc)
 
   trees-names : (ps : List Statement) (items : List ItemShape) → Pieces ps → piece_trees ps ≡ Ok items → Items items
   unfolding piece_trees Pieces

@@ -1,5 +1,5 @@
 use Rattle.std.specs.Prelude.{⊤}
-use Rattle.std.proofs.Common.{◌≡◌, ℕ, Bool, true, false, List, [], ◌∷◌, ◌++◌, refl, ap, ◌∙◌, subst, Option, Some, None, inl, inr, ◌⊎◌}
+use Rattle.std.proofs.Common.{rules, ◌≡◌, ℕ, Bool, true, false, List, [], ◌∷◌, ◌++◌, refl, ap, ◌∙◌, subst, Option, Some, None, inl, inr, ◌⊎◌}
 use Rattle.std.proofs.lemmas.Option.{same_Some, some_pair_parts}
 use Rattle.c2po_lexer.specs.declared.token.Sign.{Sign}
 use Rattle.c2po_lexer.specs.declared.token.Sign.TheVariants as sign
@@ -41,21 +41,7 @@ InfixSign s (Some op) = IsInfixSign s op
 infix_sign : (s : Sign) → InfixSign s (sign_infix s)
 unfolding InfixSign
 infix_sign sign.Iff = record { level = refl; apart = refl; operand = refl; flat = λ d. refl; reads = λ line ts. refl }
-infix_sign sign.Implies = record { level = refl; apart = refl; operand = refl; flat = λ d. refl; reads = λ line ts. refl }
-infix_sign sign.OrOr = record { level = refl; apart = refl; operand = refl; flat = λ d. refl; reads = λ line ts. refl }
-infix_sign sign.AndAnd = record { level = refl; apart = refl; operand = refl; flat = λ d. refl; reads = λ line ts. refl }
-infix_sign sign.EqualEqual = record { level = refl; apart = refl; operand = refl; flat = λ d. refl; reads = λ line ts. refl }
-infix_sign sign.NotEqual = record { level = refl; apart = refl; operand = refl; flat = λ d. refl; reads = λ line ts. refl }
-infix_sign sign.Less = record { level = refl; apart = refl; operand = refl; flat = λ d. refl; reads = λ line ts. refl }
-infix_sign sign.LessEqual = record { level = refl; apart = refl; operand = refl; flat = λ d. refl; reads = λ line ts. refl }
-infix_sign sign.Greater = record { level = refl; apart = refl; operand = refl; flat = λ d. refl; reads = λ line ts. refl }
-infix_sign sign.GreaterEqual = record { level = refl; apart = refl; operand = refl; flat = λ d. refl; reads = λ line ts. refl }
-infix_sign sign.Plus = record { level = refl; apart = refl; operand = refl; flat = λ d. refl; reads = λ line ts. refl }
-infix_sign sign.Minus = record { level = refl; apart = refl; operand = refl; flat = λ d. refl; reads = λ line ts. refl }
-infix_sign sign.Star = record { level = refl; apart = refl; operand = refl; flat = λ d. refl; reads = λ line ts. refl }
-infix_sign sign.Slash = record { level = refl; apart = refl; operand = refl; flat = λ d. refl; reads = λ line ts. refl }
-infix_sign sign.Percent = record { level = refl; apart = refl; operand = refl; flat = λ d. refl; reads = λ line ts. refl }
-infix_sign _ = tt
+infix_sign _ = search rules
 
 infix-is : (s : Sign) (op : Infix) → sign_infix s ≡ Some op → IsInfixSign s op
 unfolding InfixSign
@@ -207,8 +193,6 @@ between-operator t k op a b us is word interval =
 
 operator_in-front : (t : Token) (w : What) (ts : List Token) (o : Operator) (rest : List Token) → t.what ≡ w →
     operator_in t.line w ts ≡ Some (o, rest) → OperatorFront o (t ∷ ts) rest
-operator_in-front t (what.Word x) ts o rest is h = absurd (cc)
-operator_in-front t (what.Number n) ts o rest is h = absurd (cc)
 operator_in-front t (what.Sign s) ts o rest is h = elim (sign_operator-cases t.line s ts (o, rest) h) [
   | inl p ↦ field_of-front t ts o rest (is ∙ ap what.Sign p.0) p.1
   | inr p ↦
@@ -231,6 +215,7 @@ operator_in-front t (what.Reserved k) ts o rest is h =
       joined = ap (λ us. t ∷ us) (interval.joined ∙ ap (λ us. interval.front ++ us) same.1);
       is = subst (IsOperator t interval.front) same.0 (between-operator t k p.0 q.0.0 q.0.1 interval.front is p.1 interval.is);
     }
+operator_in-front t _ ts o rest is h = absurd (cc)
 
 pub operator_at-front : (ts : List Token) (o : Operator) (rest : List Token) → operator_at ts ≡ Some (o, rest) → OperatorFront o ts rest
 unfolding operator_at
@@ -240,22 +225,8 @@ operator_at-front (t ∷ ts) o rest h = operator_in-front t t.what ts o rest ref
 -- no operator begins with a sign that ends expressions, and neither does a call
 pub separator-none : (w : What) (line : ℕ) (ts : List Token) → is_separator w ≡ true → operator_in line w ts ≡ None
 separator-none (what.Sign sign.RightRound) line ts h = refl
-separator-none (what.Sign sign.RightCurly) line ts h = refl
-separator-none (what.Sign sign.RightSquare) line ts h = refl
-separator-none (what.Sign sign.Comma) line ts h = refl
-separator-none (what.Sign sign.Semicolon) line ts h = refl
-separator-none (what.Sign sign.Colon) line ts h = refl
-separator-none (what.Sign sign.Promises) line ts h = refl
-separator-none (what.Sign sign.Becomes) line ts h = refl
-separator-none _ line ts h = absurd (cc)
+separator-none _ line ts h = cc
 
 pub separator-closed : (w : What) → is_separator w ≡ true → is_sign sign.LeftRound w ≡ false
 separator-closed (what.Sign sign.RightRound) h = refl
-separator-closed (what.Sign sign.RightCurly) h = refl
-separator-closed (what.Sign sign.RightSquare) h = refl
-separator-closed (what.Sign sign.Comma) h = refl
-separator-closed (what.Sign sign.Semicolon) h = refl
-separator-closed (what.Sign sign.Colon) h = refl
-separator-closed (what.Sign sign.Promises) h = refl
-separator-closed (what.Sign sign.Becomes) h = refl
-separator-closed _ h = absurd (cc)
+separator-closed _ h = cc

@@ -96,14 +96,11 @@ infix_is_level (Between o a b) = level5
 infix_is_level (Compare o) = level7
 infix_is_level (Arith arith_op.Add) = level8
 infix_is_level (Arith arith_op.Sub) = level8
-infix_is_level (Arith arith_op.Mul) = level9
-infix_is_level (Arith arith_op.Div) = level9
-infix_is_level (Arith arith_op.Rem) = level9
+infix_is_level _ = level9
 
 pub prefix_low : (p : Prefix) → (1 ≤ prefix_level p) × (prefix_level p ≤ 12) × (is_prefix_level (prefix_level p) ≡ true) × (right_level (prefix_level p) ≡ prefix_level p)
 prefix_low (Not line) = (omega arith, omega arith, refl, refl)
-prefix_low (Minus line) = (omega arith, omega arith, refl, refl)
-prefix_low (Window line op a b) = (omega arith, omega arith, refl, refl)
+prefix_low _ = (omega arith, omega arith, refl, refl)
 
 -- A list after another, told how that one ends: outside brackets all is plain for level k, and so it ends.
 pub record QuietTo (k : ℕ) (a : Bool) (d : ℕ) (b : Bool) (n : ℕ) (c : List Token) : Type 0 where

@@ -212,10 +212,6 @@ begins-plain t ts None is h = is
 begins-plain t ts (Some next) is h =
     let refused : begins_item (t ∷ ts) ≡ false = ap (λ v. is_none v) is in absurd (cc)
 
-pub begins_some : (ts : List Token) → begins_item ts ≡ true → 0 < length ts
-begins_some [] h = absurd (cc)
-begins_some (t ∷ ts) h = omega arith
-
 lt-test : (a b : ℕ) → a < b → nat_lt a b ≡ true
 lt-test a b h = grind (arith, nat_tests)
 

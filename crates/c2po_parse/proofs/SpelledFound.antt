@@ -10,6 +10,7 @@ use Rattle.c2po_lexer.specs.declared.token.What.{What}
 use Rattle.c2po_lexer.specs.declared.token.What.TheVariants as what
 use Rattle.c2po_lexer.specs.declared.token.Token.{Token}
 use Rattle.c2po_ast.specs.ItemShape.{TypeShape, FieldShape, BodyShape, type_named, set_of, structure, input, define, formula, contract}
+use Rattle.c2po_parse.proofs.ItemWalk.{set_done, typed_done, label_done}
 use Rattle.c2po_parse.specs.Tokens.{is_sign, depth_after}
 use Rattle.c2po_parse.specs.Fronts.{◌>>=◌, past, name_at}
 use Rattle.c2po_parse.specs.Splitting.{parsed_tree, at_end}
@@ -29,16 +30,6 @@ record Front (P : List Token → Type 0) (ts rest : List Token) : Type 0 where
   front : List Token
   joined : ts ≡ front ++ rest
   spells : P front
-
--- what is read at the end of a step
-abbrev set_done : TypeShape → List Token → Option (TypeShape × List Token)
-set_done k ts = Some (set_of k, ts)
-
-abbrev typed_done : List (List ℕ) → TypeShape → List Token → Option (List (List ℕ) × TypeShape × List Token)
-typed_done xs k ts = Some (xs, k, ts)
-
-abbrev label_done : List ℕ → List Token → Option (List ℕ × List Token)
-label_done x ts = Some (x, ts)
 
 one-type : (t : Token) (j k : TypeShape) (ts rest : List Token) → ◌≡◌ {A = Option (TypeShape × List Token)} (Some (j, ts)) (Some (k, rest)) →
     SpellsType (t ∷ []) j → Front (λ us. SpellsType us k) (t ∷ ts) rest
@@ -80,9 +71,8 @@ type_in-front n t _ ts k rest ih is h = absurd (cc)
 
 type-front : (n : ℕ) (ts : List Token) (k : TypeShape) (rest : List Token) → type_within n ts ≡ Some (k, rest) → Front (λ us. SpellsType us k) ts rest
 unfolding type_within
-type-front zero ts k rest h = absurd (cc)
-type-front (suc n) [] k rest h = absurd (cc)
 type-front (suc n) (t ∷ ts) k rest h = type_in-front n t t.what ts k rest (λ us j vs is. type-front n us j vs is) refl h
+type-front _ _ k rest h = absurd (cc)
 
 more-front : (n : ℕ) (t : Token) (x : List ℕ) (ts : List Token) (v : Option (List Token)) (xs : List (List ℕ)) (rest : List Token) →
     ((us : List Token) (ys : List (List ℕ)) (vs : List Token) → names_within n us ≡ Some (ys, vs) → Front (λ ws. SpellNames ws ys) us vs) →

@@ -10,6 +10,7 @@ use Rattle.c2po_lexer.specs.declared.token.What.TheVariants as what
 use Rattle.c2po_lexer.specs.declared.token.Token.{Token}
 use Rattle.c2po_ast.specs.Shape.{Shape}
 use Rattle.c2po_ast.specs.ItemShape.{TypeShape, FieldShape, BodyShape, set_of, structure, input, define, formula, contract}
+use Rattle.c2po_parse.proofs.ItemWalk.{label_done}
 use Rattle.c2po_parse.specs.Tokens.{is_sign, ends_operand, depth_after, is_separator}
 use Rattle.c2po_parse.specs.Fronts.{◌>>=◌, past, word_in, name_at}
 use Rattle.c2po_parse.specs.Splitting.{parsed_tree}
@@ -125,9 +126,6 @@ struct-by : (us vs ws zs : List Token) (x : List ℕ) (fs : List FieldShape) →
 unfolding struct_item
 struct-by us vs ws zs x fs a b c d = rw (a, b, c, d) refl
 
-abbrev label_done : List ℕ → List Token → Option (List ℕ × List Token)
-label_done x ts = Some (x, ts)
-
 -- names and colons, and whether a label is there
 label-none : (us : List Token) → (name_at us >>= λ x. past sign.Colon x.1 >>= λ vs. label_done x.0 vs) ≡ None → label_at us ≡ (None, us)
 unfolding label_at
@@ -140,12 +138,10 @@ first-none _ vs h = refl
 
 separator-colon : (w : What) → is_separator w ≡ false → is_sign sign.Colon w ≡ false
 separator-colon (what.Sign sign.Colon) h = absurd (cc)
-separator-colon (what.Sign _) h = refl
 separator-colon _ h = refl
 
 separator-promise : (w : What) → is_separator w ≡ false → is_sign sign.Promises w ≡ false
 separator-promise (what.Sign sign.Promises) h = absurd (cc)
-separator-promise (what.Sign _) h = refl
 separator-promise _ h = refl
 
 no-colon : (t : Token) (ts : List Token) → is_separator t.what ≡ false → past sign.Colon (t ∷ ts) ≡ None

@@ -226,7 +226,6 @@ some-passes-on read k c e (Before p) rest b is h =
     let tight = b.tight in
     if-false (nat_eq (prefix_level p) k) (read k rest >>= λ x. Some (prefixed p x)) (read (suc k) c) (Some e)
     (not-equal (prefix_level p) k (λ same. omega arith)) h
-some-passes-on read k c e (Leaf line a) rest b is h = h
 some-passes-on read k c e _ rest b is h = h
 
 -- no prefix of this level is taken off
@@ -334,8 +333,7 @@ picks-found line x a t us e d is ih = record {
 
 prefix-below : (p : Prefix) → prefix_level p < 12
 prefix-below (Not line) = omega arith
-prefix-below (Minus line) = omega arith
-prefix-below (Window line op a b) = omega arith
+prefix-below _ = omega arith
 
 behind-found : (p : Prefix) (us c : List Token) (e : Shape) → IsStart us (Before p) → Found (prefix_level p) c e → Found (prefix_level p) (us ++ c) (prefixed p e)
 behind-found p us c e is ih = record {

@@ -108,7 +108,6 @@ some-prefix-sound read k ts (Before p) rest e ih low high is h =
           (subst (Derives (prefix_level p) (front.front ++ rest)) (same_Some (prefixed p q.0) e q.2) whole))
       | inr c ↦ next-sound read k ts e ih low high c.1
     ]
-some-prefix-sound read k ts (Leaf line a) rest e ih low high is h = next-sound read k ts e ih low high h
 some-prefix-sound read k ts _ rest e ih low high is h = next-sound read k ts e ih low high h
 
 prefixes-sound : (read : ReadsLevel) (k : ℕ) (ts : List Token) (v : Option (Start × List Token)) (e : Shape) → Sound read → 1 ≤ k → k < 12 →

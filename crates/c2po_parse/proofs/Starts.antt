@@ -346,8 +346,6 @@ closing-front q m n ts us rest number same h =
 
 pub middle_at-front : (q : Quantifier) (n : ℕ) (ts rest : List Token) → middle_at q ts ≡ Some (n, rest) → MiddleFront q n ts rest
 unfolding middle_at
-middle_at-front Each n ts rest h = closing-front Each 0 n ts ts rest (λ z. refl) refl h
-middle_at-front Exists n ts rest h = closing-front Exists 0 n ts ts rest (λ z. refl) refl h
 middle_at-front (Count op) n ts rest h =
     let m = bind-some (past sign.Comma ts >>= λ us. natural_at us) (λ x. past sign.RightRound x.1 >>= λ vs. past sign.LeftRound vs >>= λ ws. Some (x.0, ws)) (n, rest) h in
     let c = bind-some (past sign.Comma ts) (λ us. natural_at us) m.0 m.1 in
@@ -366,3 +364,4 @@ middle_at-front (Count op) n ts rest h =
       is = subst (λ k. IsMiddle (Count op) k comma.at (number.at ∷ close.at ∷ opens.at ∷ [])) last.0
           (counted-middle op m.0.0 comma.at number.at close.at opens.at comma.is number.is close.is opens.is);
     }
+middle_at-front x n ts rest h = closing-front x 0 n ts ts rest (λ z. refl) refl h

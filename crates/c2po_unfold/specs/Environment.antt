@@ -7,8 +7,8 @@ use Rattle.c2po_ast.specs.Shape as tree
 use Rattle.c2po_ast.specs.Shape.{Shape, Shapes}
 use Rattle.c2po_unfold.specs.declared.operators.UnaryOp.TheVariants.{Minus, Not, Window}
 use Rattle.c2po_unfold.specs.declared.operators.BinaryOp.TheVariants.{Arith, Compare, Logic, Between}
-use Rattle.c2po_unfold.specs.Values.{Value, Values, leaf, none, more, signal, one, two, number_value, truth_value, built}
-use Rattle.c2po_unfold.specs.Values.{grouped, members, picked, connected_all, counted}
+use Rattle.c2po_unfold.specs.Values.{Value, Values, leaf, none, more, signal, one, two, number_value, truth_value}
+use Rattle.c2po_unfold.specs.Values.{built, grouped, members, picked, connected_all, counted}
 
 -- the meaning of a name: a struct with these fields, or a value
 pub data Known : Type 0 where

@@ -1,5 +1,5 @@
--- The values that expressions unfold to. A value is its expression written out: no name, no picked field and no variable
--- of a quantifier is in it. `specs/Weights.antt` says what it weighs.
+-- The values that expressions unfold to. A value is its expression written out: no name, no picked field and no
+-- variable of a quantifier is in it. `specs/Weights.antt` says what it weighs.
 
 use Rattle.std.specs.Prelude.{ℕ, ℤ, min, Bool, true, false, Option, Some, None, List, [], ◌∷◌, fold, length}
 use Rattle.std.specs.Prelude.{slice_index_or, position}

@@ -47,11 +47,10 @@ numbered_here f ns ops i n d here is long = ap (λ xs. slice_index xs i) (ap (nu
 
 -- the best delay of an instruction is at most the worst one, where that holds of all instructions before
 pub best_below_worst : (bests worsts : List ℕ) (op : FtOp) → HasBounds 1048576 op → ((k : ℕ) → slice_index bests k ≤ slice_index worsts k) → best_of bests op ≤ worst_of worsts op
-best_below_worst bests worsts True bounds below = omega arith
-best_below_worst bests worsts (Load a) bounds below = omega arith
 best_below_worst bests worsts (Not g) bounds below = below g
 best_below_worst bests worsts (And l r) bounds below = omega (arith, below l, below r)
 best_below_worst bests worsts (Until l r i) bounds below = omega (arith, below l, below r, bounds.0)
+best_below_worst bests worsts _ bounds below = omega arith
 
 -- one more delay keeps the best at most the worst
 pub below_push : (bests worsts : List ℕ) (best worst : ℕ) → length bests ≡ length worsts → ((k : ℕ) → slice_index bests k ≤ slice_index worsts k) → best ≤ worst
@@ -98,26 +97,23 @@ best_below ops bounded k = below_after [] [] ops refl (λ j. omega arith) bounde
 
 -- operands that stand before an instruction stand before a later one
 pub after_later : (i n : ℕ) (op : FtOp) → i ≤ n → IsAfterOperands i op → IsAfterOperands n op
-after_later i n True later after = tt
-after_later i n (Load a) later after = tt
 after_later i n (Not g) later after = omega arith
 after_later i n (And l r) later after = (omega (arith, after.0), omega (arith, after.1))
 after_later i n (Until l r w) later after = (omega (arith, after.0), omega (arith, after.1))
+after_later i n _ later after = tt
 
 -- delays of operands that stand before are not changed by further ones
 best_along : (bests bests' : List ℕ) (op : FtOp) (i : ℕ) → IsAfterOperands i op → ((k : ℕ) → k < i → slice_index bests' k ≡ slice_index bests k) → best_of bests' op ≡ best_of bests op
-best_along bests bests' True i after same = refl
-best_along bests bests' (Load a) i after same = refl
 best_along bests bests' (Not g) i after same = same g after
 best_along bests bests' (And l r) i after same = omega (arith, same l after.0, same r after.1)
 best_along bests bests' (Until l r w) i after same = omega (arith, same l after.0, same r after.1)
+best_along bests bests' _ i after same = refl
 
 worst_along : (worsts worsts' : List ℕ) (op : FtOp) (i : ℕ) → IsAfterOperands i op → ((k : ℕ) → k < i → slice_index worsts' k ≡ slice_index worsts k) → worst_of worsts' op ≡ worst_of worsts op
-worst_along worsts worsts' True i after same = refl
-worst_along worsts worsts' (Load a) i after same = refl
 worst_along worsts worsts' (Not g) i after same = same g after
 worst_along worsts worsts' (And l r) i after same = omega (arith, same l after.0, same r after.1)
 worst_along worsts worsts' (Until l r w) i after same = omega (arith, same l after.0, same r after.1)
+worst_along worsts worsts' _ i after same = refl
 
 -- the number of instruction i of further ones, where a function of earlier numbers alone gives it
 number_at : (f : List ℕ → FtOp → ℕ) → ((ns ns' : List ℕ) (op : FtOp) (i : ℕ) → IsAfterOperands i op → ((k : ℕ) → k < i → slice_index ns' k ≡ slice_index ns k) → f ns' op ≡ f ns op)

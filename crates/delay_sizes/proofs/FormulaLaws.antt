@@ -16,19 +16,17 @@ index-map f none (p ∷ ps) (suc g) = index-map f none ps g
 
 best_of_formula : (loaded : List Atom) (before : List Core) (op : FtOp) → best_of (map bpd before) op ≡ bpd (op_formula loaded before op)
 unfolding bpd
-best_of_formula loaded before True = refl
-best_of_formula loaded before (Load a) = refl
 best_of_formula loaded before (Not g) = index-map bpd refl before g
 best_of_formula loaded before (And l r) = omega (arith, index-map bpd refl before l, index-map bpd refl before r)
 best_of_formula loaded before (Until l r i) = omega (arith, index-map bpd refl before l, index-map bpd refl before r)
+best_of_formula loaded before _ = refl
 
 worst_of_formula : (loaded : List Atom) (before : List Core) (op : FtOp) → worst_of (map core_wpd before) op ≡ core_wpd (op_formula loaded before op)
 unfolding wpd plain
-worst_of_formula loaded before True = refl
-worst_of_formula loaded before (Load a) = refl
 worst_of_formula loaded before (Not g) = index-map core_wpd refl before g
 worst_of_formula loaded before (And l r) = omega (arith, index-map core_wpd refl before l, index-map core_wpd refl before r)
 worst_of_formula loaded before (Until l r i) = omega (arith, index-map core_wpd refl before l, index-map core_wpd refl before r)
+worst_of_formula loaded before _ = refl
 
 numbers_of_formulas : (number : List ℕ → FtOp → ℕ) (f : Core → ℕ) (loaded : List Atom) → ((before : List Core) (op : FtOp) → number (map f before) op ≡ f (op_formula loaded before op))
     → (before : List Core) (ops : List FtOp) → numbered_after number (map f before) ops ≡ map f (formulas_after loaded before ops)

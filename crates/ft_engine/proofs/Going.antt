@@ -6,17 +6,8 @@ use Rattle.mltl_base.specs.Verdicts.{Known}
 use Rattle.scq_ring.specs.declared.Ring.{Ring}
 use Rattle.scq_ring.specs.declared.Slot.{Slot}
 use Rattle.scq_ring.specs.declared.Seen.TheVariants.{Run}
-use Rattle.scq_ring.specs.Runs.{Belongs, Shows, frontier_of, low_of, verdict_at}
+use Rattle.scq_ring.specs.Runs.{Belongs, IsWritten, Shows, frontier_of, low_of, verdict_at}
 use Rattle.ft_engine.specs.Decisions.{Shown, GoesOn}
-
--- what a write leaves
-pub record Written (old : Ring) (old_slots : List Slot) (upto : ℕ) (value : Bool) (new : Ring) (new_slots : List Slot) : Type 0 where
-  pub belongs : Belongs new new_slots
-  pub frontier : frontier_of new ≡ upto + 1
-  pub rises : low_of old ≤ low_of new
-  pub bounded : low_of new ≤ max (low_of old) (upto + 1 - length old_slots)
-  pub kept : (t : ℕ) → low_of new ≤ t → t < frontier_of old → verdict_at new new_slots t ≡ verdict_at old old_slots t
-  pub written : (t : ℕ) → frontier_of old ≤ t → t ≤ upto → verdict_at new new_slots t ≡ value
 
 -- the values of the times from `start` to the frontier are known, and the ring has those that it keeps
 pub record Told (value : Known) (ring : Ring) (slots : List Slot) (start : ℕ) : Type 0 where
@@ -26,11 +17,8 @@ pub record Told (value : Known) (ring : Ring) (slots : List Slot) (start : ℕ) 
 pub stays : (ring : Ring) (slots : List Slot) → Belongs ring slots → GoesOn ring slots ring slots
 stays ring slots belongs = record { belongs = belongs; onward = omega arith; rises = omega arith; bounded = omega arith; kept = λ t from to. refl }
 
-pub told_nothing : (value : Known) (ring : Ring) (slots : List Slot) → Told value ring slots (frontier_of ring)
-told_nothing value ring slots = record { known = λ t from to. absurd (omega arith); verdicts = λ t from kept to. absurd (omega arith) }
-
 pub goes_further : (a : Ring) (xs : List Slot) (b : Ring) (ys : List Slot) (upto : ℕ) (v : Bool) (c : Ring) (zs : List Slot)
-    → GoesOn a xs b ys → Written b ys upto v c zs → frontier_of b ≤ upto → length ys ≡ length xs → GoesOn a xs c zs
+    → GoesOn a xs b ys → IsWritten b ys upto v c zs → frontier_of b ≤ upto → length ys ≡ length xs → GoesOn a xs c zs
 goes_further a xs b ys upto v c zs g w ahead same = record {
   belongs = w.belongs;
   onward = omega (arith, g.onward, w.frontier);
@@ -40,7 +28,7 @@ goes_further a xs b ys upto v c zs g w ahead same = record {
 }
 
 pub tells_more : (value : Known) (start : ℕ) (b : Ring) (ys : List Slot) (upto : ℕ) (v : Bool) (c : Ring) (zs : List Slot)
-    → Told value b ys start → Written b ys upto v c zs → ((t : ℕ) → frontier_of b ≤ t → t ≤ upto → value t ≡ Some v) → Told value c zs start
+    → Told value b ys start → IsWritten b ys upto v c zs → ((t : ℕ) → frontier_of b ≤ t → t ≤ upto → value t ≡ Some v) → Told value c zs start
 tells_more value start b ys upto v c zs told w new = record {
   known = λ t from to. elim (cases_lt t (frontier_of b)) [
     | inl before ↦ told.known t from before

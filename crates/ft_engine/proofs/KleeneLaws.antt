@@ -30,25 +30,21 @@ and_none_right (Some false) y live e = absurd (live refl)
 
 pub and_none_left : (x y : Option Bool) → x ≡ None → (y ≡ Some false → ⊥) → k_and x y ≡ None
 unfolding k_and
-and_none_left x None e live = rw e
-and_none_left x (Some true) e live = rw e
 and_none_left x (Some false) e live = absurd (live refl)
+and_none_left x _ e live = rw e
 
 -- unknown and anything isn't true
 pub and_unknown : (x y : Option Bool) → x ≡ None → k_and x y ≡ Some true → ⊥
 unfolding k_and
-and_unknown x None e f = let h : k_and None None ≡ Some true = subst (λ (v : Option Bool). k_and v None ≡ Some true) e f in cc
 and_unknown x (Some true) e f = let h : k_and None (Some true) ≡ Some true = subst (λ (v : Option Bool). k_and v (Some true) ≡ Some true) e f in cc
-and_unknown x (Some false) e f = let h : k_and None (Some false) ≡ Some true = subst (λ (v : Option Bool). k_and v (Some false) ≡ Some true) e f in cc
+and_unknown x y e f = let h : k_and None y ≡ Some true = subst (λ (v : Option Bool). k_and v y ≡ Some true) e f in cc
 
 -- nothing is true beside what is unknown
 pub and_never_true : (x y : Option Bool) → (y ≡ Some true → ⊥) → k_and x y ≡ Some true → ⊥
 unfolding k_and
-and_never_true None None live e = cc
 and_never_true None (Some true) live e = cc
-and_never_true None (Some false) live e = cc
 and_never_true (Some true) y live e = live e
-and_never_true (Some false) y live e = cc
+and_never_true _ _ live e = cc
 
 or_true_left : (x y : Option Bool) → x ≡ Some true → k_or x y ≡ Some true
 unfolding k_or k_not k_and
@@ -56,9 +52,8 @@ or_true_left x y e = rw e
 
 or_true_right : (x y : Option Bool) → y ≡ Some true → k_or x y ≡ Some true
 unfolding k_or k_not k_and
-or_true_right None y e = rw e
 or_true_right (Some true) y e = refl
-or_true_right (Some false) y e = rw e
+or_true_right _ y e = rw e
 
 or_false : (x y : Option Bool) → x ≡ Some false → y ≡ Some false → k_or x y ≡ Some false
 unfolding k_or k_not k_and
@@ -66,25 +61,20 @@ or_false x y e f = rw (e, f)
 
 or_never_true : (x y : Option Bool) → (x ≡ Some true → ⊥) → (y ≡ Some true → ⊥) → k_or x y ≡ Some true → ⊥
 unfolding k_or k_not k_and
-or_never_true None None a b e = cc
 or_never_true None (Some true) a b e = b refl
-or_never_true None (Some false) a b e = cc
 or_never_true (Some true) y a b e = a refl
-or_never_true (Some false) None a b e = cc
 or_never_true (Some false) (Some true) a b e = b refl
-or_never_true (Some false) (Some false) a b e = cc
+or_never_true _ _ a b e = cc
 
 or_none_left : (x y : Option Bool) → x ≡ None → (y ≡ Some true → ⊥) → k_or x y ≡ None
 unfolding k_or k_not k_and
-or_none_left x None e live = rw e
 or_none_left x (Some true) e live = absurd (live refl)
-or_none_left x (Some false) e live = rw e
+or_none_left x _ e live = rw e
 
 or_none_right : (x y : Option Bool) → (x ≡ Some true → ⊥) → y ≡ None → k_or x y ≡ None
 unfolding k_or k_not k_and
-or_none_right None y live e = rw e
 or_none_right (Some true) y live e = absurd (live refl)
-or_none_right (Some false) y live e = rw e
+or_none_right _ y live e = rw e
 
 -- some time below n
 pub some_true : (n : ℕ) (f : ℕ → Option Bool) (i : ℕ) → i < n → f i ≡ Some true → k_some_below n f ≡ Some true
@@ -124,11 +114,10 @@ every_false (suc n) f i i_in e = elim (cases_eq i n) [
 
 and_never_false : (x y : Option Bool) → (x ≡ Some false → ⊥) → (y ≡ Some false → ⊥) → k_and x y ≡ Some false → ⊥
 unfolding k_and
-and_never_false None None a b e = cc
-and_never_false None (Some true) a b e = cc
 and_never_false None (Some false) a b e = b refl
 and_never_false (Some true) y a b e = b e
 and_never_false (Some false) y a b e = a refl
+and_never_false _ _ a b e = cc
 
 every_never_false : (n : ℕ) (f : ℕ → Option Bool) → ((i : ℕ) → i < n → f i ≡ Some false → ⊥) → k_every_below n f ≡ Some false → ⊥
 unfolding k_every_below

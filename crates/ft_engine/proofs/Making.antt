@@ -28,34 +28,26 @@ pub record IsFresh (op : FtOp) (slots : ℕ) (queue : Queue) : Type 0 where
 
 -- an until begins at the lower end of its window
 first_placed : (plan : Plan) (i : ℕ) (op : FtOp) (queue : Queue) → IsSeated plan i op → frontier_of queue.ring ≡ 0 → queue.reads_at ≡ first_read_of op → ReadsNextAt plan i op queue 0
-first_placed plan i True queue s f p = tt
-first_placed plan i (Load k) queue s f p = tt
-first_placed plan i (Not g) queue s f p = tt
-first_placed plan i (And l r) queue s f p = tt
 first_placed plan i (Until l r window) queue s f p =
     let worst = s.5 in
     (omega (arith, f, p), omega (arith, p, worst), omega (arith, p))
+first_placed plan i _ queue s f p = tt
 
 -- nothing is ahead of queues without verdicts
 first_ahead : (plan : Plan) (i : ℕ) (op : FtOp) (queues : List Queue) (queue : Queue) → IsSeated plan i op → ((g : ℕ) → g < i → frontier_of (queue_at queues g).ring ≡ 0) → IsAhead queues op queue
 first_ahead plan i True queues queue s f = tt
 first_ahead plan i (Load k) queues queue s f = tt
-first_ahead plan i (Not g) queues queue s f = omega (arith, f g s.0)
-first_ahead plan i (And l r) queues queue s f = omega (arith, f l s.0)
-first_ahead plan i (Until l r window) queues queue s f = omega (arith, f l s.0)
+first_ahead plan i _ queues queue s f = omega (arith, f _ s.0)
 
 -- and nothing was scanned
 first_scanned : (op : FtOp) (table : VerdictTable) (queue : Queue) → frontier_of queue.ring ≡ 0 → queue.reads_at ≡ first_read_of op → IsScanned op table queue
-first_scanned True table queue f p = tt
-first_scanned (Load k) table queue f p = tt
-first_scanned (Not g) table queue f p = tt
-first_scanned (And l r) table queue f p = tt
 first_scanned (Until l r window) table queue f p = record {
   reach = omega (arith, f, p);
   order = omega arith;
   left = λ k from to. absurd (omega (arith, f, p));
   right = λ k from to. absurd (omega (arith, f, p));
 }
+first_scanned _ table queue f p = tt
 
 -- the first i queues, whose parts end at `start`
 pub record Started (ops : List FtOp) (sizes : List ℕ) (queues : List Queue) (start i : ℕ) : Type 0 where

@@ -27,8 +27,6 @@ module _ (ops : List FtOp) (outs : List Out) where
   seated_as : (i : ℕ) (op : FtOp) → i < length ops → IsAfterOperands i op → HasBounds 1048576 op
       → slice_index (best_delays ops) i ≡ best_of (best_delays ops) op → slice_index (worst_delays ops) i ≡ worst_of (worst_delays ops) op
       → slice_index_or (readers ops outs) i [] ≡ operands op → IsSeated (plan_of ops outs) i op
-  seated_as i True h after bounds best worst read = (best, worst)
-  seated_as i (Load k) h after bounds best worst read = (best, worst)
   seated_as i (Not g) h after bounds best worst read =
       let here = covered i h (g ∷ []) read 0 0 (omega arith) (omega arith) in
       (after, best, worst, omega arith)
@@ -44,6 +42,7 @@ module _ (ops : List FtOp) (outs : List Out) where
       let right_left = covered i h (l ∷ r ∷ []) read 1 0 (omega arith) (omega arith) in
       let right = covered i h (l ∷ r ∷ []) read 1 1 (omega arith) (omega arith) in
       (after.0, after.1, bounds.0, bounds.1, best, worst, omega arith, omega arith)
+  seated_as i _ h after bounds best worst read = (best, worst)
 
   pub planned_for : AreInOrder ops → All (HasBounds 1048576) ops → IsPlannedFor (plan_of ops outs) ops (λ i. slice_index (queue_lengths ops outs) i)
   planned_for order bounds = record {

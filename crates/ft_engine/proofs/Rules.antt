@@ -51,32 +51,6 @@ fresh_scan i p q t reads_at e = record {
   right = λ k from to. absurd (omega arith);
 }
 
--- the right operand is false a while longer
-pub right_false : (i : Interval) (p q : Known) (t reads_at seen end : ℕ) → Scan i p q t reads_at seen → seen ≤ end
-    → ((k : ℕ) → seen ≤ k → k ≤ end → q k ≡ Some false) → Scan i p q t reads_at (end + 1)
-right_false i p q t reads_at seen end s further fails = record {
-  reach = s.reach;
-  order = omega (arith, s.order);
-  left = s.left;
-  right = λ k from to. elim (cases_lt k seen) [
-    | inl before ↦ s.right k from before
-    | inr after ↦ fails k after (omega arith)
-  ];
-}
-
--- the left operand is true a while longer
-pub left_true : (i : Interval) (p q : Known) (t reads_at seen last : ℕ) → Scan i p q t reads_at seen → reads_at ≤ last → last < seen
-    → ((k : ℕ) → reads_at ≤ k → k ≤ last → p k ≡ Some true) → Scan i p q t (last + 1) seen
-left_true i p q t reads_at seen last s further within holds = record {
-  reach = omega (arith, s.reach);
-  order = omega arith;
-  left = λ k from to. elim (cases_lt k reads_at) [
-    | inl before ↦ s.left k from before
-    | inr after ↦ holds k after (omega arith)
-  ];
-  right = s.right;
-}
-
 -- the left operand is false from the reading time on, and the right one is false there
 pub left_false : (i : Interval) (p q : Known) (t reads_at seen last : ℕ) → Scan i p q t reads_at seen → reads_at ≤ last → last < seen
     → ((k : ℕ) → reads_at ≤ k → k ≤ last → p k ≡ Some false) → (x : ℕ) → t ≤ x → x + i.lo ≤ last → k_until i p q x ≡ Some false

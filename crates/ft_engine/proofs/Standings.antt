@@ -55,11 +55,10 @@ best_of_formula program i h =
 -- where an instruction is ahead of its operands, it reads on from n less the width of each
 reads_kept : (program : Program) (queues : List Queue) (n i : ℕ) (op : FtOp) (queue : Queue) → IsSeated (plan_of program.ft program.outs) i op
     → ((g : ℕ) → g < i → n ≤ frontier_of (queue_at queues g).ring + slice_index (worst_delays program.ft) g) → IsAhead queues op queue → ReadsFrom op (λ g. n - queue_width program g) (reads_from op queue)
-reads_kept program queues n i True queue s frontier a = tt
-reads_kept program queues n i (Load k) queue s frontier a = tt
 reads_kept program queues n i (Not g) queue s frontier a = omega (arith, frontier g s.0, s.3)
 reads_kept program queues n i (And l r) queue s frontier a = (omega (arith, frontier l s.0, frontier r s.1, s.4), omega (arith, frontier l s.0, frontier r s.1, s.5))
 reads_kept program queues n i (Until l r window) queue s frontier a = (omega (arith, frontier l s.0, frontier r s.1, s.6), omega (arith, frontier l s.0, frontier r s.1, s.7))
+reads_kept program queues n i _ queue s frontier a = tt
 
 -- queues that are on plan have their parts of the slab
 pub paced_sound : (plan : Plan) (ops : List FtOp) (queues : List Queue) (slab : List Slot) (n : ℕ) → IsPaced plan ops queues slab n → QueuesAreSound queues slab
@@ -97,11 +96,10 @@ total_of program rows ft s = s.total
 
 -- the work of a row goes by the sizes of instructions alone
 sizes_in_order : (op : FtOp) (size size' : ℕ → ℕ) (n own own' : ℕ) → IsAfterOperands n op → ((i : ℕ) → i < n → size i ≡ size' i) → own ≡ own' → work_of size op own ≡ work_of size' op own'
-sizes_in_order True size size' n own own' after same e = omega arith
-sizes_in_order (Load k) size size' n own own' after same e = omega arith
 sizes_in_order (Not g) size size' n own own' after same e = omega (arith, same g after)
 sizes_in_order (And l r) size size' n own own' after same e = omega (arith, same l after.0, same r after.1)
 sizes_in_order (Until l r window) size size' n own own' after same e = omega (arith, same l after.0, same r after.1)
+sizes_in_order _ size size' n own own' after same e = omega arith
 
 pub work_by_sizes : (ops : List FtOp) (size size' : ℕ → ℕ) (n : ℕ) → AreInOrder ops → n ≤ length ops → ((i : ℕ) → i < n → size i ≡ size' i) → work_before ops size n ≡ work_before ops size' n
 work_by_sizes ops size size' zero order h same = refl

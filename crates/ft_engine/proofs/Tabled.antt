@@ -64,9 +64,7 @@ module _ (longest : (rows : List Row) (p : Formula) → IsLongestKnown (kleene r
   unfolding plain verdicts kleene_over
   value_longest rows loaded all True = subst (IsLongestKnown _ (length rows)) (sym (truth_verdicts rows)) (all_known _ (length rows) (map (λ r. true) rows) (length-map rows (λ r. true)) (λ t h. in_time t (length rows) (Some true) None h ∙ sym (mapped (λ r. true) rows t h)))
   value_longest rows loaded all (Load k) = subst (IsLongestKnown _ (length rows)) (sym (atom_verdicts rows (get_or loaded k (is_true 0)))) (all_known _ (length rows) (map (holds (get_or loaded k (is_true 0))) rows) (length-map rows (holds (get_or loaded k (is_true 0)))) (λ t h. in_time t (length rows) (Some (truth_at rows loaded t k)) None h ∙ sym (mapped (holds (get_or loaded k (is_true 0))) rows t h)))
-  value_longest rows loaded all (Not g) = longest rows (plain (op_formula loaded all (Not g)))
-  value_longest rows loaded all (And l r) = longest rows (plain (op_formula loaded all (And l r)))
-  value_longest rows loaded all (Until l r window) = longest rows (plain (op_formula loaded all (Until l r window)))
+  value_longest rows loaded all x = longest rows (plain (op_formula loaded all x))
 
   pub known_is_table : (plan : Plan) (rows : List Row) (loaded : List Atom) (ops : List FtOp) → ((i : ℕ) → i < length ops → IsPlanned plan i (op_at ops i))
       → IsTable ops (truth_at rows loaded) (length rows) (known_table rows loaded ops)

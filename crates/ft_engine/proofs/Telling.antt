@@ -9,11 +9,11 @@ use Rattle.mltl_base.specs.declared.interval.Interval.{Interval}
 use Rattle.mltl_base.specs.Verdicts.{Known, IsLongestKnown}
 use Rattle.scq_ring.specs.declared.Ring.{Ring}
 use Rattle.scq_ring.specs.declared.Slot.{Slot}
-use Rattle.scq_ring.specs.Runs.{Belongs, frontier_of, verdict_at}
+use Rattle.scq_ring.specs.Runs.{Belongs, IsWritten, frontier_of, verdict_at}
 use Rattle.ft_engine.specs.Decisions.{Shown, GoesOn, Decides}
 use Rattle.ft_engine.specs.Scans.{Scan}
 use Rattle.ft_engine.specs.Tables.{Extends, HasVerdicts, VerdictTable}
-use Rattle.ft_engine.proofs.Going.{Written, goes_further, stays}
+use Rattle.ft_engine.proofs.Going.{goes_further, stays}
 
 -- what isn't known at an index is no value
 none_is_no_value : (o : Option Bool) → o ≡ None → IsSome o → ⊥
@@ -81,7 +81,7 @@ at_end n x y = grind (arith, nat_tests)
 -- an instruction whose value is known for each time at which a row was taken has written that of the last row
 pub settled_at_once : (old : Ring) (old_slots : List Slot) (old_vs : List Bool) (ring : Ring) (slots : List Slot) (vs : List Bool) (values : ℕ → Bool) (n upto : ℕ) (v : Bool)
     → IsLongestKnown (λ t. if nat_lt t (n + 1) then Some (values t) else None) (n + 1) vs → ((t : ℕ) (v : Bool) → slice_get old_vs t ≡ Some v → slice_get vs t ≡ Some v)
-    → HasVerdicts old old_slots old_vs → Belongs old old_slots → Written old old_slots upto v ring slots → upto ≡ n → frontier_of old ≡ n → values n ≡ v → HasVerdicts ring slots vs
+    → HasVerdicts old old_slots old_vs → Belongs old old_slots → IsWritten old old_slots upto v ring slots → upto ≡ n → frontier_of old ≡ n → values n ≡ v → HasVerdicts ring slots vs
 settled_at_once old old_slots old_vs ring slots vs values n upto v longest extends has belongs w last level here =
     let value : Known = λ t. if nat_lt t (n + 1) then Some (values t) else None in
     let known : value n ≡ Some v = before_end n (n + 1) (Some (values n)) None (omega arith) ∙ ap (λ (b : Bool). Some b) here in

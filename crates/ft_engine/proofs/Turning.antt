@@ -28,11 +28,10 @@ pub record Turned (plan : Plan) (ops : List FtOp) (queues : List Queue) (slab : 
 pub ahead_same : (plan : Plan) (i : ℕ) (op : FtOp) (queues queues' : List Queue) (queue queue' : Queue) → IsSeated plan i op
     → ((g : ℕ) → g < i → frontier_of (queue_at queues' g).ring ≡ frontier_of (queue_at queues g).ring) → reads_from op queue' ≡ reads_from op queue
     → IsAhead queues op queue → IsAhead queues' op queue'
-ahead_same plan i True queues queues' queue queue' s same e h = tt
-ahead_same plan i (Load k) queues queues' queue queue' s same e h = tt
 ahead_same plan i (Not g) queues queues' queue queue' s same e h = omega (arith, same g s.0)
 ahead_same plan i (And l r) queues queues' queue queue' s same e h = omega (arith, same l s.0, same r s.1)
 ahead_same plan i (Until l r window) queues queues' queue queue' s same e h = omega (arith, same l s.0, same r s.1)
+ahead_same plan i _ queues queues' queue queue' s same e h = tt
 
 -- the first i instructions have the verdicts of the newer table, the others those of the older one
 pub record Retold (ops : List FtOp) (old new : VerdictTable) (queues : List Queue) (slab : List Slot) (i : ℕ) : Type 0 where
@@ -127,8 +126,7 @@ module _ (plan : Plan) (ops : List FtOp) (queues : List Queue) (slab : List Slot
 -- an instruction takes no more steps than it may by the first sizes
 pub work_same : (plan : Plan) (op : FtOp) (before first : List Queue) (size size' : ℕ) → IsSeated plan (length before) op
     → ((j : ℕ) → j < length before → (queue_at before j).seat.size ≡ (queue_at first j).seat.size) → size ≡ size' → work_of (size_in before) op size ≤ work_of (size_in first) op size'
-work_same plan True before first size size' seated same e = omega arith
-work_same plan (Load k) before first size size' seated same e = omega arith
 work_same plan (Not g) before first size size' seated same e = omega (arith, same g seated.0)
 work_same plan (And l r) before first size size' seated same e = omega (arith, same l seated.0, same r seated.1)
 work_same plan (Until l r window) before first size size' seated same e = omega (arith, same l seated.0, same r seated.1)
+work_same plan _ before first size size' seated same e = omega arith

@@ -19,11 +19,10 @@ IsBefore i (And l r) = (l < i) × (r < i)
 IsBefore i (Until l r window) = (l < i) × (r < i)
 
 pub seated_before : (plan : Plan) (i : ℕ) (op : FtOp) → IsSeated plan i op → IsBefore i op
-seated_before plan i True s = tt
-seated_before plan i (Load k) s = tt
 seated_before plan i (Not g) s = s.0
 seated_before plan i (And l r) s = (s.0, s.1)
 seated_before plan i (Until l r window) s = (s.0, s.1)
+seated_before plan i _ s = tt
 
 -- the formulas before stay
 formulas_keep : (loaded : List Atom) (before : List Core) (ops : List FtOp) (g : ℕ) → g < length before → core_at (formulas_after loaded before ops) g ≡ core_at before g
@@ -35,11 +34,10 @@ formulas_keep loaded before (op ∷ ops) g h =
 
 -- a formula over more formulas is the same where its operands are
 formula_same : (loaded : List Atom) (before all : List Core) (i : ℕ) (op : FtOp) → IsBefore i op → ((g : ℕ) → g < i → core_at all g ≡ core_at before g) → op_formula loaded before op ≡ op_formula loaded all op
-formula_same loaded before all i True b same = refl
-formula_same loaded before all i (Load k) b same = refl
 formula_same loaded before all i (Not g) b same = ap (λ (p : Core). cnot p) (sym (same g b))
 formula_same loaded before all i (And l r) b same = ap₂ (λ (p q : Core). cand p q) (sym (same l b.0)) (sym (same r b.1))
 formula_same loaded before all i (Until l r window) b same = ap₂ (λ (p q : Core). cuntil window p q) (sym (same l b.0)) (sym (same r b.1))
+formula_same loaded before all i _ b same = refl
 
 unfolds_after : (loaded : List Atom) (before : List Core) (ops : List FtOp) → ((i : ℕ) → i < length ops → IsBefore (length before + i) (op_at ops i)) → (i : ℕ) → i < length ops
     → core_at (formulas_after loaded before ops) (length before + i) ≡ op_formula loaded (formulas_after loaded before ops) (op_at ops i)

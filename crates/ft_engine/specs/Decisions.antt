@@ -18,6 +18,19 @@ pub record CanBeReadFrom (operand : Operand) (from : ℕ) : Type 0 where
   pub belongs : Belongs operand.ring.now operand.slots.now
   pub kept : low_of operand.ring.now ≤ from
 
+-- both operands can be read from a time on
+pub record CanBothBeReadFrom (left right : Operand) (from : ℕ) : Type 0 where
+  pub of_left : CanBeReadFrom left from
+  pub of_right : CanBeReadFrom right from
+
+-- the first time at which one of two operands has no verdict yet
+abbrev pub first_end : Operand → Operand → ℕ
+first_end left right = min (frontier_of left.ring.now) (frontier_of right.ring.now)
+
+-- the first time at which neither of two operands has a verdict yet
+abbrev pub last_end : Operand → Operand → ℕ
+last_end left right = max (frontier_of left.ring.now) (frontier_of right.ring.now)
+
 -- the operand's queue shows what is known
 abbrev pub ShownBy : Operand → Known → Type 0
 ShownBy operand known = Shown operand.ring.now operand.slots.now known
@@ -32,9 +45,8 @@ pub record GoesOn (old : Ring) (old_slots : List Slot) (new : Ring) (new_slots :
 
 -- the ring goes as far as both operands do, and no further than one of them
 pub record GoesAsFar (left right : Operand) (old new : Ring) : Type 0 where
-  pub enough : min (frontier_of left.ring.now) (frontier_of right.ring.now) ≤ frontier_of new
-  pub no_further : frontier_of new
-      ≤ max (frontier_of old) (max (frontier_of left.ring.now) (frontier_of right.ring.now))
+  pub enough : first_end left right ≤ frontier_of new
+  pub no_further : frontier_of new ≤ max (frontier_of old) (last_end left right)
 
 -- from time `start` on the ring has the values, and there is none at its frontier: it has decided all that can be known
 pub record Decides (value : Known) (ring : Ring) (slots : List Slot) (start : ℕ) : Type 0 where

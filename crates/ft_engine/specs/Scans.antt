@@ -1,5 +1,5 @@
 -- What an until knows of its operands between two decisions.
-use Rattle.std.specs.Prelude.{◌≡◌, ℕ, ◌+◌, ◌*◌, ◌-◌, ◌<◌, ◌≤◌, ◌⊎◌, max, min, true, false, List, Some, None, nat_lt}
+use Rattle.std.specs.Prelude.{◌≡◌, ℕ, ◌+◌, ◌*◌, ◌-◌, ◌<◌, ◌≤◌, ◌⊎◌, max, true, false, List, Some, None, nat_lt}
 use Rattle.std.specs.Prelude.{if◌then◌else◌}
 use Rattle.mltl_base.specs.declared.limits.TheConstants.{TIME_END}
 use Rattle.mltl_base.specs.declared.interval.Interval.{Interval}
@@ -11,7 +11,7 @@ use Rattle.ft_engine.specs.declared.until.Reading.{Reading}
 use Rattle.ft_engine.specs.declared.until.Turn.{Turn}
 use Rattle.ft_engine.specs.declared.until.Turn.TheVariants.{Look, Decide, Stop}
 use Rattle.ft_engine.specs.declared.until.Until.{Until}
-use Rattle.ft_engine.specs.Decisions.{Decides, CanBeReadFrom, ShownBy, operand_runs}
+use Rattle.ft_engine.specs.Decisions.{Decides, CanBeReadFrom, ShownBy, first_end, operand_runs}
 
 -- From the lower end of the window of time t on, the right operand is false before `seen`, and the left one true before
 -- `reads_at`.
@@ -35,16 +35,22 @@ pub record IsReadingOf (until : Until) (at : Reading) : Type 0 where
   pub order : at.reads_at ≤ at.seen
   pub in_time : at.seen ≤ TIME_END
 
+-- an until whose queue ends at time t is to read its operands: what is seen doesn't reach past the window of that time
+pub record IsToRead (until : Until) (t : ℕ) (at : Reading) : Type 0 where
+  pub can_scan : CanScan until t at.reads_at
+  pub reading : IsReadingOf until at
+  pub within : at.seen ≤ t + until.window.hi
+
 -- with a queue up to time t, as much is decided as the operand that ends first allows
 abbrev pub HasEnough : Until → ℕ → Type 0
-HasEnough until t = min (frontier_of until.left.ring.now) (frontier_of until.right.ring.now) ≤ t + until.window.hi
+HasEnough until t = first_end until.left until.right ≤ t + until.window.hi
 
 -- The reading time at which an until reads next, with a queue up to time t: it moved on from its old one, to where an
 -- operand ends at least, and not past the right one's end.
 pub record IsNextRead (until : Until) (t reads_at reads_at' : ℕ) : Type 0 where
   pub reach : t + until.window.lo ≤ reads_at'
   pub onward : reads_at ≤ reads_at'
-  pub ahead : min (frontier_of until.left.ring.now) (frontier_of until.right.ring.now) ≤ reads_at'
+  pub ahead : first_end until.left until.right ≤ reads_at'
   pub in_time : reads_at' ≤ max reads_at (frontier_of until.right.ring.now)
 
 -- The most steps of a row: three for each time of the right operand from the reading time on, one for each decided
@@ -94,7 +100,7 @@ Leads until t at (Look next) =
 Leads until t at (Decide upto value next) =
     MovesOn at next (frontier_of until.right.ring.now) × (t ≤ upto) × (upto + 1 + until.window.lo ≤ next.reads_at)
 Leads until t at Stop =
-    (min (frontier_of until.left.ring.now) (frontier_of until.right.ring.now) ≤ at.reads_at)
+    (first_end until.left until.right ≤ at.reads_at)
     × (at.seen ≤ t + until.window.hi)
 
 -- the steps that a turn may take: two where it stops, else as many as the reading moves on, what is seen counted twice

@@ -1,10 +1,10 @@
 //! One row of a conjunction.
 
-ghost use Rattle.std.specs.Prelude.{◌≡◌, ℕ, ◌+◌, ◌-◌, ◌*◌, ◌^◌, ◌<◌, ◌≤◌, max, min};
+ghost use Rattle.std.specs.Prelude.{◌≡◌, ℕ, ◌+◌, ◌-◌, ◌*◌, ◌^◌, ◌<◌, ◌≤◌};
 ghost use Rattle.mltl_base.specs.declared.limits.TheConstants.{TIME_END};
 ghost use Rattle.mltl_base.specs.Verdicts.{Known, k_conjunction};
 ghost use Rattle.scq_ring.specs.Runs.{Belongs, frontier_of};
-ghost use Rattle.ft_engine.specs.Decisions.{Decides, GoesAsFar, GoesOn, CanBeReadFrom, IsStoppedAfter, IsStretch, RunEndsBefore, ShownBy, TakesOne, operand_runs};
+ghost use Rattle.ft_engine.specs.Decisions.{Decides, GoesAsFar, GoesOn, CanBothBeReadFrom, IsStoppedAfter, IsStretch, RunEndsBefore, ShownBy, TakesOne, first_end, last_end, operand_runs};
 
 use crate::operand::{Near, Operand};
 use mltl_base::steps::Steps;
@@ -20,9 +20,8 @@ pub fn and_row<L: Ledger>(
     steps: &mut Steps<L>,
 )
     requires belongs { Belongs own.old own_slots.old }
-    requires left { CanBeReadFrom left (frontier_of own.old) }
-    requires right { CanBeReadFrom right (frontier_of own.old) }
-    requires in_time { max (frontier_of left.ring.now) (frontier_of right.ring.now) ≤ TIME_END }
+    requires operands { CanBothBeReadFrom left right (frontier_of own.old) }
+    requires in_time { last_end left right ≤ TIME_END }
     ensures goes_on { GoesOn own.old own_slots.old own.new own_slots.new }
     ensures as_far { GoesAsFar left.entry right.entry own.old own.new }
     ensures counted { steps.new ≤ steps.old + 3 * (frontier_of own.new - frontier_of own.old) + 2 }
@@ -48,22 +47,16 @@ fn conjunction_from<L: Ledger>(
     near: &mut Near,
     steps: &mut Steps<L>,
 ) -> Seen
-    requires left { CanBeReadFrom left from }
-    requires right { CanBeReadFrom right from }
+    requires operands { CanBothBeReadFrom left right from }
     ensures counted { steps.new ≤ steps.old + 2 }
     ensures takes { TakesOne left.entry right.entry from result }
-    ensures within { RunEndsBefore from
-        (max (frontier_of left.entry.ring.now) (frontier_of right.entry.ring.now)) result }
-    ensures enough { IsStoppedAfter
-        (min (frontier_of left.entry.ring.now) (frontier_of right.entry.ring.now)) from result }
+    ensures within { RunEndsBefore from (last_end left.entry right.entry) result }
+    ensures enough { IsStoppedAfter (first_end left.entry right.entry) from result }
     ensures decided { (p q : Known) → ShownBy left.entry p → ShownBy right.entry q
         → IsStretch (k_conjunction p q) from result }
 {
-    match left.ring.read_near(left.slots, from, &mut near.left, steps) {
-        Seen::Nothing => match right
-            .ring
-            .read_near(right.slots, from, &mut near.right, steps)
-        {
+    match left.read_near(from, &mut near.left, steps) {
+        Seen::Nothing => match right.read_near(from, &mut near.right, steps) {
             Seen::Nothing => Seen::Nothing,
             Seen::Run(end, value) => if value {
                 Seen::Nothing
@@ -75,10 +68,7 @@ fn conjunction_from<L: Ledger>(
             if !left_value {
                 return Seen::Run(left_end, false);
             }
-            match right
-                .ring
-                .read_near(right.slots, from, &mut near.right, steps)
-            {
+            match right.read_near(from, &mut near.right, steps) {
                 Seen::Nothing => Seen::Nothing,
                 Seen::Run(right_end, right_value) => if right_value {
                     Seen::Run(left_end.min(right_end), true)

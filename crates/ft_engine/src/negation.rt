@@ -32,10 +32,7 @@ pub fn not_row<L: Ledger>(
 {
     let mut near = usize::MAX;
     'turns: loop {
-        match operand
-            .ring
-            .read_near(operand.slots, own.frontier(), &mut near, steps)
-        {
+        match operand.read_near(own.frontier(), &mut near, steps) {
             Seen::Nothing => return,
             Seen::Run(end, value) => own.write(own_slots, end, !value, steps),
         }

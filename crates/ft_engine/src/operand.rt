@@ -1,12 +1,36 @@
 //! The operand of an operator.
 
-use scq_ring::{Ring, Slot};
+ghost use Rattle.std.specs.Prelude.{◌≡◌, ◌+◌, ◌≤◌};
+ghost use Rattle.scq_ring.specs.Runs.{Shows, TakesRun};
+ghost use Rattle.ft_engine.specs.Decisions.{CanBeReadFrom};
+
+use mltl_base::steps::Steps;
+use scq_ring::{Ring, Seen, Slot};
+use std::sync::ledger::Ledger;
 
 /// The queue of an operand: a ring and the slots that belong to it.
 #[derive(Clone, Copy)]
 pub struct Operand<'a> {
     pub ring: &'a Ring,
     pub slots: &'a [Slot],
+}
+
+impl<'a> Operand<'a> {
+    /// Reads the queue from time `from` on, and looks first at run `near`, as `Ring::read_near` does.
+    #[inline(always)]
+    pub(crate) fn read_near<L: Ledger>(
+        self,
+        from: u64,
+        near: &mut usize,
+        steps: &mut Steps<L>,
+    ) -> Seen
+        requires readable { CanBeReadFrom self from }
+        ensures seen { Shows self.entry.ring.now self.entry.slots.now from result }
+        ensures takes { TakesRun self.entry.ring.now self.entry.slots.now from result }
+        ensures step { steps.new ≡ steps.old + 1 }
+    {
+        self.ring.read_near(self.slots, from, near, steps)
+    }
 }
 
 /// Which runs of two operands were read last, by which the next ones are found.

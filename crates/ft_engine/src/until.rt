@@ -3,7 +3,7 @@
 ghost use Rattle.std.specs.Prelude.{◌≡◌, ℕ, ◌+◌, ◌^◌, ◌<◌, ◌≤◌};
 ghost use Rattle.scq_ring.specs.Runs.{Belongs, frontier_of};
 ghost use Rattle.ft_engine.specs.Decisions.{GoesOn};
-ghost use Rattle.ft_engine.specs.Scans.{CanScan, DecidesFrom, HasEnough, IsNextRead, IsReadingOf, Leads, TurnFinds, reads_of, row_steps, steps_after, steps_by_runs, steps_left};
+ghost use Rattle.ft_engine.specs.Scans.{CanScan, DecidesFrom, HasEnough, IsNextRead, IsReadingOf, IsToRead, Leads, TurnFinds, reads_of, row_steps, steps_after, steps_by_runs, steps_left};
 
 use crate::operand::{Near, Operand};
 use mltl_base::Interval;
@@ -113,9 +113,7 @@ fn read_right<L: Ledger>(
     near: &mut Near,
     steps: &mut Steps<L>,
 ) -> Turn
-    requires can_scan { CanScan until from at.reads_at }
-    requires reading { IsReadingOf until at }
-    requires within { at.seen ≤ from + until.window.hi }
+    requires to_read { IsToRead until from at }
     requires level { at.reads_at ≡ at.seen }
     ensures leads { Leads until.entry from at result }
     ensures counted { steps.new ≤ steps.old + reads_of at result }
@@ -123,11 +121,7 @@ fn read_right<L: Ledger>(
         ≤ steps.old + steps_left until.entry from at.reads_at at.seen }
     ensures finds { TurnFinds until.entry from at result }
 {
-    match until
-        .right
-        .ring
-        .read_near(until.right.slots, at.reads_at, &mut near.right, steps)
-    {
+    match until.right.read_near(at.reads_at, &mut near.right, steps) {
         Seen::Nothing => Turn::Stop,
         Seen::Run(end, value) => {
             let seen = end + 1;
@@ -156,9 +150,7 @@ fn read_left<L: Ledger>(
     near: &mut Near,
     steps: &mut Steps<L>,
 ) -> Turn
-    requires can_scan { CanScan until from at.reads_at }
-    requires reading { IsReadingOf until at }
-    requires within { at.seen ≤ from + until.window.hi }
+    requires to_read { IsToRead until from at }
     requires earlier { at.reads_at < at.seen }
     ensures leads { Leads until.entry from at result }
     ensures counted { steps.new ≤ steps.old + reads_of at result }
@@ -166,11 +158,7 @@ fn read_left<L: Ledger>(
         ≤ steps.old + steps_left until.entry from at.reads_at at.seen }
     ensures finds { TurnFinds until.entry from at result }
 {
-    match until
-        .left
-        .ring
-        .read_near(until.left.slots, at.reads_at, &mut near.left, steps)
-    {
+    match until.left.read_near(at.reads_at, &mut near.left, steps) {
         Seen::Nothing => read_ahead(from, at, until, near, steps),
         Seen::Run(end, value) => {
             let last = end.min(at.seen - 1);
@@ -196,9 +184,7 @@ fn read_ahead<L: Ledger>(
     near: &mut Near,
     steps: &mut Steps<L>,
 ) -> Turn
-    requires can_scan { CanScan until from at.reads_at }
-    requires reading { IsReadingOf until at }
-    requires within { at.seen ≤ from + until.window.hi }
+    requires to_read { IsToRead until from at }
     requires earlier { at.reads_at < at.seen }
     requires ended { frontier_of until.left.ring.now ≤ at.reads_at }
     ensures leads { Leads until.entry from at result }
@@ -207,11 +193,7 @@ fn read_ahead<L: Ledger>(
         ≤ steps.old + steps_left until.entry from at.reads_at at.seen }
     ensures finds { TurnFinds until.entry from at result }
 {
-    match until
-        .right
-        .ring
-        .read_near(until.right.slots, at.seen, &mut near.right, steps)
-    {
+    match until.right.read_near(at.seen, &mut near.right, steps) {
         Seen::Nothing => Turn::Stop,
         Seen::Run(end, value) => if value {
             Turn::Stop

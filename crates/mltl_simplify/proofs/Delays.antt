@@ -34,8 +34,6 @@ max_below a b c d h k = max-le (omega (arith, h, le-max_left c d)) (omega (arith
 
 pub simp_wpd : (p : Formula) → wpd (simp p) ≤ wpd p
 unfolding IsWithin simp wpd
-simp_wpd truth = omega arith
-simp_wpd falsity = omega arith
 simp_wpd (atom a) = atom_has {P = IsWithin 0} (within 0) a (omega arith)
 simp_wpd (negation p) = not_has {P = IsWithin (wpd p)} (within (wpd p)) (simp p) (simp_wpd p)
 simp_wpd (conjunction p q) = let n : ℕ = max (wpd p) (wpd q) in
@@ -56,6 +54,7 @@ simp_wpd (once i p) = once_cases (λ x y. wpd x ≤ wpd p → wpd y ≤ wpd p) i
 simp_wpd (historically i p) = historically_cases (λ x y. wpd x ≤ wpd p → wpd y ≤ wpd p) i (λ h. omega arith) (λ j z l h. h) (λ x h. h) (simp p) (simp_wpd p)
 simp_wpd (since i p q) = let n : ℕ = max (wpd p) (wpd q) in
     unless_false_has {P = IsWithin n} (within n) (as_truth (simp q)) (since i (simp p) (simp q)) (max_below (wpd (simp p)) (wpd (simp q)) (wpd p) (wpd q) (simp_wpd p) (simp_wpd q))
+simp_wpd _ = omega arith
 
 -- what is settled for the simplified formula is settled for the formula, among each class of further rows too
 pub simp_settled : (rows : List Row) (p : Formula) (t : ℕ) (v : Bool) → IsOrdered p → Settled rows (simp p) t v → Settled rows p t v

@@ -46,8 +46,6 @@ faultless = record {
 
 pub simp_faultless : (p : plain.Formula) → NoFault p → NoFault (simp p)
 unfolding simp formula_fault
-simp_faultless truth h = refl
-simp_faultless falsity h = refl
 simp_faultless (atom a) h = atom_has {P = NoFault} faultless a h
 simp_faultless (negation p) h = not_has {P = NoFault} faultless (simp p) (simp_faultless p h)
 simp_faultless (conjunction p q) h = let n = neither (formula_fault p) (formula_fault q) h in and_has {P = NoFault} faultless (simp p) (simp q) (simp_faultless p n.0) (simp_faultless q n.1)
@@ -67,6 +65,7 @@ simp_faultless (historically i p) h = historically_cases (λ x y. NoFault x → 
 simp_faultless (since i p q) h =
     let n = neither (formula_fault p) (formula_fault q) h in
     unless_false_has {P = NoFault} faultless (as_truth (simp q)) (since i (simp p) (simp q)) (faultless.conjunction_has (simp p) (simp q) (simp_faultless p n.0) (simp_faultless q n.1))
+simp_faultless _ h = refl
 
 -- ---- each output
 

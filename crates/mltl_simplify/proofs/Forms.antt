@@ -81,9 +81,8 @@ unless_truth_has own None x h = h
 unless_truth_has own (Some v) x h = truth_has own v
 
 pub unless_false_has : {P : Formula → Type 0} → IsPlain P → (u : Option Bool) (x : Formula) → P x → P (unless_false u x)
-unless_false_has own None x h = h
-unless_false_has own (Some true) x h = h
 unless_false_has own (Some false) x h = own.false_has
+unless_false_has own _ x h = h
 
 -- ---- intervals
 
@@ -106,8 +105,6 @@ module _ (P : Interval → Type 0) (sums : (i j : Interval) → i.hi + j.hi ≤ 
 
   simp_each_interval : (p : Formula) → OfIntervals p → OfIntervals (simp p)
   unfolding simp
-  simp_each_interval truth h = tt
-  simp_each_interval falsity h = tt
   simp_each_interval (atom a) h = atom_has {P = OfIntervals} intervals a h
   simp_each_interval (negation p) h = not_has {P = OfIntervals} intervals (simp p) (simp_each_interval p h)
   simp_each_interval (conjunction p q) h = and_has {P = OfIntervals} intervals (simp p) (simp q) (simp_each_interval p h.0) (simp_each_interval q h.1)
@@ -125,6 +122,7 @@ module _ (P : Interval → Type 0) (sums : (i j : Interval) → i.hi + j.hi ≤ 
   simp_each_interval (historically i p) h =
       historically_cases (λ x y. OfIntervals x → OfIntervals y) i (λ k. tt) (λ j z l k. (sums i j l h.0 k.0, k.1)) (λ x k. (h.0, k)) (simp p) (simp_each_interval p h.1)
   simp_each_interval (since i p q) h = unless_false_has {P = OfIntervals} intervals (as_truth (simp q)) (since i (simp p) (simp q)) (h.0, (simp_each_interval p h.1.0, simp_each_interval q h.1.1))
+  simp_each_interval _ h = tt
 
 pub simp_ordered : (p : Formula) → IsOrdered p → IsOrdered (simp p)
 simp_ordered = simp_each_interval (λ i. i.lo ≤ i.hi) (λ i j l g h. omega (arith, g, h))
@@ -210,8 +208,6 @@ module _ (P : Atom → Type 0) where
 
   pub simp_each_atom : (p : Formula) → OfAtoms p → OfAtoms (simp p)
   unfolding simp
-  simp_each_atom truth h = tt
-  simp_each_atom falsity h = tt
   simp_each_atom (atom a) h = atom_has {P = OfAtoms} atoms a h
   simp_each_atom (negation p) h = not_has {P = OfAtoms} atoms (simp p) (simp_each_atom p h)
   simp_each_atom (conjunction p q) h = and_has {P = OfAtoms} atoms (simp p) (simp q) (simp_each_atom p h.0) (simp_each_atom q h.1)
@@ -225,6 +221,7 @@ module _ (P : Atom → Type 0) where
   simp_each_atom (once i p) h = once_cases (λ x y. OfAtoms x → OfAtoms y) i (λ k. tt) (λ j z l k. k) (λ x k. k) (simp p) (simp_each_atom p h)
   simp_each_atom (historically i p) h = historically_cases (λ x y. OfAtoms x → OfAtoms y) i (λ k. tt) (λ j z l k. k) (λ x k. k) (simp p) (simp_each_atom p h)
   simp_each_atom (since i p q) h = unless_false_has {P = OfAtoms} atoms (as_truth (simp q)) (since i (simp p) (simp q)) (simp_each_atom p h.0, simp_each_atom q h.1)
+  simp_each_atom _ h = tt
 
 -- each atom of the formula is one of these
 AreAmong : (Atom → Type 0) → Formula → Type 0
@@ -250,8 +247,6 @@ among S = record {
 
 among_simp : (S : Atom → Type 0) (p : Formula) → AreAmong S p → AreAmong S (simp p)
 unfolding simp AreAmong
-among_simp S truth h = λ a k. absurd k
-among_simp S falsity h = λ a k. absurd k
 among_simp S (atom a) h = atom_has {P = AreAmong S} (among S) a h
 among_simp S (negation p) h = not_has {P = AreAmong S} (among S) (simp p) (among_simp S p h)
 among_simp S (conjunction p q) h = and_has {P = AreAmong S} (among S) (simp p) (simp q) (among_simp S p (λ a k. h a (inl k))) (among_simp S q (λ a k. h a (inr k)))
@@ -268,6 +263,7 @@ among_simp S (once i p) h = once_cases (λ x y. AreAmong S x → AreAmong S y) i
 among_simp S (historically i p) h = historically_cases (λ x y. AreAmong S x → AreAmong S y) i (λ k a e. absurd e) (λ j z l k. k) (λ x k. k) (simp p) (among_simp S p h)
 among_simp S (since i p q) h =
     unless_false_has {P = AreAmong S} (among S) (as_truth (simp q)) (since i (simp p) (simp q)) (either_among S (simp p) (simp q) (among_simp S p (λ a k. h a (inl k))) (among_simp S q (λ a k. h a (inr k))))
+among_simp S _ h = λ a k. absurd k
 
 pub simp_atoms : (p : Formula) (a : Atom) → HasAtom (simp p) a → HasAtom p a
 unfolding AreAmong

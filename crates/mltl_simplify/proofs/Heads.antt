@@ -56,21 +56,14 @@ tells : (ts : List Tree) (n : Plain) (p : Formula) → tree_of ts n ≡ formula 
 unfolding as_truth head_of node_head is_not node_truth node_is_not
 tells ts (node.Truth true) p e = by_same (node.Truth true) truth p e (record { truth = refl; window = refl; negation = refl })
 tells ts (node.Truth false) p e = by_same (node.Truth false) falsity p e (record { truth = refl; window = refl; negation = refl })
-tells ts (node.Flag s) p e = by_same (node.Flag s) _ p e (record { truth = refl; window = refl; negation = refl })
-tells ts (node.Compare op a b) p e = by_same (node.Compare op a b) _ p e (record { truth = refl; window = refl; negation = refl })
-tells ts (node.Not a) p e = by_same (node.Not a) _ p e (record { truth = refl; window = refl; negation = refl })
+tells ts (node.Number n) p e = absurd (cc)
+tells ts (node.Signal s) p e = absurd (cc)
+tells ts (node.Minus a) p e = absurd (cc)
+tells ts (node.Arith op a b) p e = absurd (cc)
 tells ts (node.Logic logic.And a b) p e = by_same (node.Logic logic.And a b) _ p e (record { truth = refl; window = refl; negation = refl })
-tells ts (node.Logic logic.Or a b) p e = by_same (node.Logic logic.Or a b) _ p e (record { truth = refl; window = refl; negation = refl })
-tells ts (node.Logic logic.Implies a b) p e = by_same (node.Logic logic.Implies a b) _ p e (record { truth = refl; window = refl; negation = refl })
-tells ts (node.Logic logic.Iff a b) p e = by_same (node.Logic logic.Iff a b) _ p e (record { truth = refl; window = refl; negation = refl })
 tells ts (node.Window window.F i a) p e = by_same (node.Window window.F i a) _ p e (record { truth = refl; window = refl; negation = refl })
-tells ts (node.Window window.G i a) p e = by_same (node.Window window.G i a) _ p e (record { truth = refl; window = refl; negation = refl })
-tells ts (node.Window window.O i a) p e = by_same (node.Window window.O i a) _ p e (record { truth = refl; window = refl; negation = refl })
-tells ts (node.Window window.H i a) p e = by_same (node.Window window.H i a) _ p e (record { truth = refl; window = refl; negation = refl })
 tells ts (node.Between between.U i a b) p e = by_same (node.Between between.U i a b) _ p e (record { truth = refl; window = refl; negation = refl })
-tells ts (node.Between between.R i a b) p e = by_same (node.Between between.R i a b) _ p e (record { truth = refl; window = refl; negation = refl })
-tells ts (node.Between between.S i a b) p e = by_same (node.Between between.S i a b) _ p e (record { truth = refl; window = refl; negation = refl })
-tells ts _ p e = absurd (cc)
+tells ts x p e = by_same x _ p e (record { truth = refl; window = refl; negation = refl })
 
 -- ---- truths
 
@@ -115,54 +108,24 @@ not_other ts n p e h k = other_not p ((tells ts n p e).truth ∙ no_truth n h) (
 -- ---- operators that look at one time
 
 module _ (p q : Formula) where
-  pub true_and : Some true ≡ as_truth p → q ≡ simple_and p q
-  true_and h = rw (← h) refl
-
   pub false_and : Some false ≡ as_truth p → p ≡ simple_and p q
   false_and h = rw (← h) (truth_is p false (sym h))
 
   pub true_or : Some true ≡ as_truth p → p ≡ simple_or p q
   true_or h = rw (← h) (truth_is p true (sym h))
 
-  pub false_or : Some false ≡ as_truth p → q ≡ simple_or p q
-  false_or h = rw (← h) refl
-
-  pub true_implies : Some true ≡ as_truth p → q ≡ simple_implies p q
-  true_implies h = rw (← h) refl
-
   pub false_implies : Some false ≡ as_truth p → truth ≡ simple_implies p q
   false_implies h = rw (← h) refl
 
-  pub true_equals : Some true ≡ as_truth p → q ≡ simple_equals p q
-  true_equals h = rw (← h) refl
-
-  pub false_equals : Some false ≡ as_truth p → simple_not q ≡ simple_equals p q
-  false_equals h = rw (← h) refl
-
   module _ (h : None ≡ as_truth p) where
-    pub and_true : Some true ≡ as_truth q → p ≡ simple_and p q
-    and_true k = rw (← h, ← k) refl
-
     pub and_false : Some false ≡ as_truth q → q ≡ simple_and p q
     and_false k = rw (← h, ← k) (truth_is q false (sym k))
 
     pub or_true : Some true ≡ as_truth q → q ≡ simple_or p q
     or_true k = rw (← h, ← k) (truth_is q true (sym k))
 
-    pub or_false : Some false ≡ as_truth q → p ≡ simple_or p q
-    or_false k = rw (← h, ← k) refl
-
     pub implies_true : Some true ≡ as_truth q → q ≡ simple_implies p q
     implies_true k = rw (← h, ← k) (truth_is q true (sym k))
-
-    pub implies_false : Some false ≡ as_truth q → simple_not p ≡ simple_implies p q
-    implies_false k = rw (← h, ← k) refl
-
-    pub equals_true : Some true ≡ as_truth q → p ≡ simple_equals p q
-    equals_true k = rw (← h, ← k) refl
-
-    pub equals_false : Some false ≡ as_truth q → simple_not p ≡ simple_equals p q
-    equals_false k = rw (← h, ← k) refl
 
     module _ (k : None ≡ as_truth q) where
       pub and_stays : conjunction p q ≡ simple_and p q
@@ -181,14 +144,11 @@ module _ (p q : Formula) where
 
 keeps : (op : WindowOp) (i : Interval) (v : Bool) → keeps_truth op v ≡ true → of_truth v ≡ simple_window op i (of_truth v)
 unfolding simple_finally simple_globally simple_once simple_historically
-keeps window.F i true h = refl
-keeps window.F i false h = refl
-keeps window.G i true h = refl
-keeps window.G i false h = refl
 keeps window.O i true h = absurd (cc)
-keeps window.O i false h = refl
-keeps window.H i true h = refl
 keeps window.H i false h = absurd (cc)
+keeps window.F i true h = refl
+keeps window.G i true h = refl
+keeps _ i _ h = refl
 
 pub window_keeps : (op : WindowOp) (i : Interval) (v : Bool) (p : Formula) → Some v ≡ as_truth p → keeps_truth op v ≡ true → p ≡ simple_window op i p
 window_keeps op i v p h k = let same : p ≡ of_truth v = truth_is p v (sym h) in subst (λ q. q ≡ simple_window op i q) (sym same) (keeps op i v k)
@@ -271,26 +231,21 @@ window_far ts op i j z p e h =
 
 between_gives_truth : (op : BetweenOp) (i : Interval) (v : Bool) (p : Formula) → gives_truth op v ≡ true → of_truth v ≡ simple_between op i p (of_truth v)
 unfolding as_truth
-between_gives_truth between.U i true p h = refl
-between_gives_truth between.U i false p h = refl
-between_gives_truth between.R i true p h = refl
-between_gives_truth between.R i false p h = refl
 between_gives_truth between.S i true p h = absurd (cc)
-between_gives_truth between.S i false p h = refl
+between_gives_truth between.U i true p h = refl
+between_gives_truth between.R i true p h = refl
+between_gives_truth _ i _ p h = refl
 
 pub between_gives : (op : BetweenOp) (i : Interval) (v : Bool) (p q : Formula) → Some v ≡ as_truth q → gives_truth op v ≡ true → q ≡ simple_between op i p q
 between_gives op i v p q h k = let same : q ≡ of_truth v = truth_is q v (sym h) in subst (λ r. r ≡ simple_between op i p r) (sym same) (between_gives_truth op i v p k)
 
 pub between_none : (op : BetweenOp) (i : Interval) (p q : Formula) → None ≡ as_truth q → ranged op i p q ≡ simple_between op i p q
 between_none between.U i p q h = rw (← h) refl
-between_none between.R i p q h = rw (← h) refl
-between_none between.S i p q h = rw (← h) refl
+between_none _ i p q h = rw (← h) refl
 
 pub between_stays : (op : BetweenOp) (i : Interval) (v : Bool) (p q : Formula) → Some v ≡ as_truth q → gives_truth op v ≡ false → ranged op i p q ≡ simple_between op i p q
-between_stays between.U i v p q h k = absurd (cc)
-between_stays between.R i v p q h k = absurd (cc)
 between_stays between.S i true p q h k = rw (← h) refl
-between_stays between.S i false p q h k = absurd (cc)
+between_stays _ i _ p q h k = absurd (cc)
 
 -- what isn't a truth is none
 pub none_left : (o : Option Bool) → ((v : Bool) → o ≡ Some v → ⊥) → None ≡ o

@@ -51,12 +51,7 @@ value_same (remainder a b) row h = let none = or_parts _ _ h in rw (value_same a
 holds_same : (a : Atom) (row : Row) → has_signal a ≡ false → holds a row ≡ holds a []
 unfolding holds has_signal
 holds_same (is_true s) row h = absurd (cc)
-holds_same (equal a b) row h = let none = or_parts _ _ h in rw (value_same a row none.0, value_same b row none.1) refl
-holds_same (less a b) row h = let none = or_parts _ _ h in rw (value_same a row none.0, value_same b row none.1) refl
-holds_same (at_most a b) row h = let none = or_parts _ _ h in rw (value_same a row none.0, value_same b row none.1) refl
-holds_same (different a b) row h = let none = or_parts _ _ h in rw (value_same a row none.0, value_same b row none.1) refl
-holds_same (greater a b) row h = let none = or_parts _ _ h in rw (value_same a row none.0, value_same b row none.1) refl
-holds_same (at_least a b) row h = let none = or_parts _ _ h in rw (value_same a row none.0, value_same b row none.1) refl
+holds_same _ row h = let none = or_parts _ _ h in rw (value_same _ row none.0, value_same _ row none.1) refl
 
 atom_means : (rows : List Row) (a : Atom) (t : ℕ) → sat rows (simple_atom a) t ≡ sat rows (atom a) t
 unfolding sat
@@ -251,8 +246,6 @@ module _ (rows : List Row) (i : Interval) (t : ℕ) (o : i.lo ≤ i.hi) where
 
 pub simp_sat : (rows : List Row) (p : Formula) (t : ℕ) → IsOrdered p → sat rows (simp p) t ≡ sat rows p t
 unfolding simp sat
-simp_sat rows truth t o = refl
-simp_sat rows falsity t o = refl
 simp_sat rows (atom a) t o = atom_means rows a t
 simp_sat rows (negation p) t o = not_means rows (simp p) t ∙ ap not (simp_sat rows p t o)
 simp_sat rows (conjunction p q) t o = and_means rows (simp p) (simp q) t ∙ ap₂ (λ a b. a && b) (simp_sat rows p t o.0) (simp_sat rows q t o.1)
@@ -269,3 +262,4 @@ simp_sat rows (once i p) t o = once_means rows i t o.0 (simp p) (simp_ordered p 
 simp_sat rows (historically i p) t o =
     historically_means rows i t o.0 (simp p) (simp_ordered p o.1) ∙ ap (every_below (suc t)) (fun_ext (λ m. ap (λ v. not (within i (t - m)) || v) (simp_sat rows p m o.1)))
 simp_sat rows (since i p q) t o = since_means rows i t o.0 (simp p) (simp q) ∙ ap₂ (λ f g. since_at i f g t) (fun_ext (λ s. simp_sat rows p s o.1.0)) (fun_ext (λ s. simp_sat rows q s o.1.1))
+simp_sat rows _ t o = refl

@@ -122,8 +122,6 @@ pub record IsLeaf (n : Plain) : Type 0 where
 leaf_placed : (ts us : List Tree) (new : List Plain) (k : ℕ) (n : Plain) → IsLeaf n → Has new k (tree_of us n) → IsPlaced new k (tree_of ts n)
 leaf_placed ts us new k (node.Truth v) l h = truth_placed new k v h
 leaf_placed ts us new k (node.Flag s) l h = flag_placed new k s h
-leaf_placed ts us new k (node.Number m) l h = h
-leaf_placed ts us new k (node.Signal s) l h = h
 leaf_placed ts us new k (node.Minus a) l h = absurd (l.no_minus a refl)
 leaf_placed ts us new k (node.Arith op a b) l h = absurd (l.no_arith op a b refl)
 leaf_placed ts us new k (node.Compare op a b) l h = absurd (l.no_compare op a b refl)
@@ -131,11 +129,10 @@ leaf_placed ts us new k (node.Not a) l h = absurd (l.no_not a refl)
 leaf_placed ts us new k (node.Logic op a b) l h = absurd (l.no_logic op a b refl)
 leaf_placed ts us new k (node.Window op i a) l h = absurd (l.no_window op i a refl)
 leaf_placed ts us new k (node.Between op i a b) l h = absurd (l.no_between op i a b refl)
+leaf_placed ts us new k _ l h = h
 
 leaf_formed : (signals : ℕ) (ts us : List Tree) (n : Plain) → IsLeaf n → IsFormed signals ts n → IsFormed signals us n
-leaf_formed signals ts us (node.Truth v) l h = tt
 leaf_formed signals ts us (node.Flag s) l h = h
-leaf_formed signals ts us (node.Number m) l h = tt
 leaf_formed signals ts us (node.Signal s) l h = h
 leaf_formed signals ts us (node.Minus a) l h = absurd (l.no_minus a refl)
 leaf_formed signals ts us (node.Arith op a b) l h = absurd (l.no_arith op a b refl)
@@ -144,6 +141,7 @@ leaf_formed signals ts us (node.Not a) l h = absurd (l.no_not a refl)
 leaf_formed signals ts us (node.Logic op a b) l h = absurd (l.no_logic op a b refl)
 leaf_formed signals ts us (node.Window op i a) l h = absurd (l.no_window op i a refl)
 leaf_formed signals ts us (node.Between op i a b) l h = absurd (l.no_between op i a b refl)
+leaf_formed signals ts us _ l h = tt
 
 pub place_leaf : {E : Type 0} (result : Result ℕ E) (nodes old new : List Plain) (i : ℕ) (n : Plain) (tree : Tree) → OnOk result (new ≡ old ++ n ∷ []) → IfOk result (λ k. k ≡ length old) →
     slice_get nodes i ≡ Some n → Has nodes i tree → IsLeaf n → IfOk result (λ k. Places nodes old new k tree)
@@ -189,22 +187,17 @@ place_compare result nodes old new op a b x y u w tree pushed place h k known_x 
 logic_simple : (op : logic.LogicOp) (p q x y : plain.Formula) → (formula_fault p ≡ None → x ≡ simp p) → (formula_fault q ≡ None → y ≡ simp q) → formula_fault (connected op p q) ≡ None → simple_logic op x y ≡ simp (connected op p q)
 unfolding simp formula_fault
 logic_simple logic.TheVariants.And p q x y h k f = let n = neither (formula_fault p) (formula_fault q) f in ap₂ (simple_logic logic.TheVariants.And) (h n.0) (k n.1)
-logic_simple logic.TheVariants.Or p q x y h k f = let n = neither (formula_fault p) (formula_fault q) f in ap₂ (simple_logic logic.TheVariants.Or) (h n.0) (k n.1)
-logic_simple logic.TheVariants.Implies p q x y h k f = let n = neither (formula_fault p) (formula_fault q) f in ap₂ (simple_logic logic.TheVariants.Implies) (h n.0) (k n.1)
-logic_simple logic.TheVariants.Iff p q x y h k f = let n = neither (formula_fault p) (formula_fault q) f in ap₂ (simple_logic logic.TheVariants.Iff) (h n.0) (k n.1)
+logic_simple z p q x y h k f = let n = neither (formula_fault p) (formula_fault q) f in ap₂ (simple_logic z) (h n.0) (k n.1)
 
 window_simple : (op : window.WindowOp) (i : Interval) (p x : plain.Formula) → (formula_fault p ≡ None → x ≡ simp p) → formula_fault (windowed op i p) ≡ None → simple_window op i x ≡ simp (windowed op i p)
 unfolding simp formula_fault
 window_simple window.TheVariants.F i p x h f = ap (simple_window window.TheVariants.F i) (h f)
-window_simple window.TheVariants.G i p x h f = ap (simple_window window.TheVariants.G i) (h f)
-window_simple window.TheVariants.O i p x h f = ap (simple_window window.TheVariants.O i) (h f)
-window_simple window.TheVariants.H i p x h f = ap (simple_window window.TheVariants.H i) (h f)
+window_simple y i p x h f = ap (simple_window y i) (h f)
 
 between_simple : (op : between.BetweenOp) (i : Interval) (p q x y : plain.Formula) → (formula_fault p ≡ None → x ≡ simp p) → (formula_fault q ≡ None → y ≡ simp q) → formula_fault (ranged op i p q) ≡ None → simple_between op i x y ≡ simp (ranged op i p q)
 unfolding simp formula_fault
 between_simple between.TheVariants.U i p q x y h k f = let n = neither (formula_fault p) (formula_fault q) f in ap₂ (simple_between between.TheVariants.U i) (h n.0) (k n.1)
-between_simple between.TheVariants.R i p q x y h k f = let n = neither (formula_fault p) (formula_fault q) f in ap₂ (simple_between between.TheVariants.R i) (h n.0) (k n.1)
-between_simple between.TheVariants.S i p q x y h k f = let n = neither (formula_fault p) (formula_fault q) f in ap₂ (simple_between between.TheVariants.S i) (h n.0) (k n.1)
+between_simple z i p q x y h k f = let n = neither (formula_fault p) (formula_fault q) f in ap₂ (simple_between z i) (h n.0) (k n.1)
 
 not_simple : (p x : plain.Formula) → (formula_fault p ≡ None → x ≡ simp p) → formula_fault (plain.negation p) ≡ None → Rattle.mltl_simplify.specs.Simplify.simple_not x ≡ simp (plain.negation p)
 unfolding simp formula_fault

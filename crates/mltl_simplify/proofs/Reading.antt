@@ -35,14 +35,12 @@ head nodes n node tree e h = same_Some _ _ (sym (node_has nodes n node e).found 
 
 -- operands
 is_formula_in : (o : Option Tree) → IsFormula o → o ≡ Some (formula (formula_in o))
-is_formula_in None h = absurd h
-is_formula_in (Some (number a)) h = absurd h
 is_formula_in (Some (formula p)) h = refl
+is_formula_in _ h = absurd h
 
 is_number_in : (o : Option Tree) → IsNumber o → o ≡ Some (number (term_in o))
-is_number_in None h = absurd h
 is_number_in (Some (number a)) h = refl
-is_number_in (Some (formula p)) h = absurd h
+is_number_in _ h = absurd h
 
 pub formula_operand : (nodes : List Plain) (k a : ℕ) → IsFormula (slice_get (trees (take k nodes)) a) → Has nodes a (formula (node_formula (trees (take k nodes)) a))
 formula_operand nodes k a h = has_later nodes k a _ (is_formula_in (slice_get (trees (take k nodes)) a) h)

@@ -62,12 +62,7 @@ module _ (columns : List ℕ) where
   atom_reads : (a : Atom) → has_signal (atom_over columns a) ≡ has_signal a
   unfolding has_signal atom_over
   atom_reads (is_true s) = refl
-  atom_reads (equal a b) = ap₂ (λ x y. x || y) (term_reads a) (term_reads b)
-  atom_reads (less a b) = ap₂ (λ x y. x || y) (term_reads a) (term_reads b)
-  atom_reads (at_most a b) = ap₂ (λ x y. x || y) (term_reads a) (term_reads b)
-  atom_reads (different a b) = ap₂ (λ x y. x || y) (term_reads a) (term_reads b)
-  atom_reads (greater a b) = ap₂ (λ x y. x || y) (term_reads a) (term_reads b)
-  atom_reads (at_least a b) = ap₂ (λ x y. x || y) (term_reads a) (term_reads b)
+  atom_reads _ = ap₂ (λ x y. x || y) (term_reads _) (term_reads _)
 
   atom_holds : (a : Atom) → has_signal a ≡ false → holds (atom_over columns a) [] ≡ holds a []
   unfolding has_signal atom_over holds
@@ -183,14 +178,11 @@ module _ (columns : List ℕ) where
   unless_false_over : (u : Option Bool) (x : Formula) → over (unless_false u x) ≡ unless_false u (over x)
   unfolding formula_over
   unless_false_over (Some false) x = refl
-  unless_false_over (Some true) x = refl
-  unless_false_over None x = refl
+  unless_false_over _ x = refl
 
   -- a formula over columns is simplified as the formula is
   pub simp_over : (p : Formula) → formula_over columns (simp p) ≡ simp (formula_over columns p)
   unfolding simp formula_over
-  simp_over truth = refl
-  simp_over falsity = refl
   simp_over (atom a) = simple_atom_over a
   simp_over (negation p) = not_over (simp p) ∙ ap simple_not (simp_over p)
   simp_over (conjunction p q) = and_over (simp p) (simp q) ∙ ap₂ simple_and (simp_over p) (simp_over q)
@@ -213,6 +205,7 @@ module _ (columns : List ℕ) where
       unless_false_over (as_truth (simp q)) (since i (simp p) (simp q))
       ∙ ap (λ u. unless_false u (since i (over (simp p)) (over (simp q)))) (sym (truth_of_over (simp q)))
       ∙ ap₂ (λ x y. unless_false (as_truth y) (since i x y)) (simp_over p) (simp_over q)
+  simp_over _ = refl
 
   output_simple : (o : Output) → output_over columns (simple_output o) ≡ simple_output (output_over columns o)
   output_simple (formula p) = ap formula (simp_over p)

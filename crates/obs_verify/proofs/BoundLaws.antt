@@ -45,17 +45,15 @@ length-mapped f xs i inside = omega (arith, length-append (map f (take i xs)) (d
 
 pub length-bound_signals : (signals : List StoredSignal) (columns : List ℕ) → length (bound_signals signals columns) ≡ length signals
 unfolding bound_signals
-length-bound_signals [] columns = refl
-length-bound_signals (s ∷ signals) [] = refl
 length-bound_signals (s ∷ signals) (n ∷ columns) = ap suc (length-bound_signals signals columns)
+length-bound_signals _ _ = refl
 
 bound_push : (signals : List StoredSignal) (columns : List ℕ) (s : StoredSignal) (n : ℕ) → length signals ≡ length columns
     → bound_signals (signals ++ s ∷ []) (columns ++ n ∷ []) ≡ bound_signals signals columns ++ (record s { column = n }) ∷ []
 unfolding bound_signals
 bound_push [] [] s n same = refl
-bound_push [] (m ∷ columns) s n same = absurd (omega arith)
-bound_push (t ∷ signals) [] s n same = absurd (omega arith)
 bound_push (t ∷ signals) (m ∷ columns) s n same = ap (λ ss. record t { column = m } ∷ ss) (bound_push signals columns s n (omega arith))
+bound_push _ _ s n same = absurd (omega arith)
 
 pub bound_more : (signals now : List StoredSignal) (columns : List ℕ) (k n : ℕ) (s moved_signal : StoredSignal) → k < length columns → length columns ≡ length signals
     → now ≡ bound_signals (take k signals) (take k columns) ++ drop k signals → slice_get now k ≡ Some s → n ≡ slice_index columns k → moved_signal ≡ record s { column = n }

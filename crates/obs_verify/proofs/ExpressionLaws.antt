@@ -28,9 +28,8 @@ front before (op ∷ ops) =
 -- a place in the front of a list
 pub slice_get-take : {X : Type 0} (n : ℕ) (xs : List X) (i : ℕ) → i < n → slice_get (take n xs) i ≡ slice_get xs i
 slice_get-take zero xs i h = absurd (omega arith)
-slice_get-take (suc n) [] i h = refl
-slice_get-take (suc n) (x ∷ xs) zero h = refl
 slice_get-take (suc n) (x ∷ xs) (suc i) h = slice_get-take n xs i (omega arith)
+slice_get-take _ _ _ h = refl
 
 -- the expression of a further instruction
 pub expression_after : (before : List Expression) (ops : List BzOp) (j : ℕ) (op : BzOp) → slice_get ops j ≡ Some op
@@ -72,16 +71,11 @@ whole_inside program i a h = elim (cases_lt a i) [
 ]
 
 pub reads_before : (program : Program) (i : ℕ) (op : BzOp) → has_operands program i op ≡ true → ReadsBefore i op
+reads_before program i (Column c) h = tt
+reads_before program i (IsTrue c) h = tt
+reads_before program i (Const n) h = tt
 reads_before program i (Neg a) h = whole_inside program i a h
-reads_before program i (Add a b) h = (whole_inside program i a (and_left _ _ h), whole_inside program i b (and_right _ _ h))
-reads_before program i (Sub a b) h = (whole_inside program i a (and_left _ _ h), whole_inside program i b (and_right _ _ h))
-reads_before program i (Mul a b) h = (whole_inside program i a (and_left _ _ h), whole_inside program i b (and_right _ _ h))
-reads_before program i (Div a b) h = (whole_inside program i a (and_left _ _ h), whole_inside program i b (and_right _ _ h))
-reads_before program i (Rem a b) h = (whole_inside program i a (and_left _ _ h), whole_inside program i b (and_right _ _ h))
-reads_before program i (Eq a b) h = (whole_inside program i a (and_left _ _ h), whole_inside program i b (and_right _ _ h))
-reads_before program i (Lt a b) h = (whole_inside program i a (and_left _ _ h), whole_inside program i b (and_right _ _ h))
-reads_before program i (Le a b) h = (whole_inside program i a (and_left _ _ h), whole_inside program i b (and_right _ _ h))
-reads_before program i _ h = tt
+reads_before program i _ h = (whole_inside program i _ (and_left _ _ h), whole_inside program i _ (and_right _ _ h))
 
 operand : (bz : List BzOp) (ranges : List Range) (a : ℕ) → AreRanges bz ranges → a < length ranges
     → range_at ranges a ≡ range (term_at (take (length ranges) (expressions bz)) a)
@@ -115,10 +109,6 @@ ranges_push bz ranges ranges' r is known here =
             ap (λ n. range (term_at (expressions bz) n)) (sym at) ∙ here ∙ sym (ap (λ x. Ok x) (get_or_push ranges r (range_from (pos 0) (pos 0)) k at))
       ];
     })
-
--- the answers of the rule
-pub bz_operand : (program : Program) (i : ℕ) (op : BzOp) → has_operands program i op ≡ false → bz_fault program i op ≡ Some (Operand Bz i)
-bz_operand program i op h = rw h refl
 
 pub bz_range : (program : Program) (i : ℕ) (op : BzOp) (ranged : Ranged) → has_operands program i op ≡ true → range (term_at (expressions program.bz) i) ≡ ranged → bz_fault program i op ≡ no_range_fault i ranged
 bz_range program i op ranged h k = rw (h, k) refl

@@ -11,11 +11,6 @@ use Rattle.obs_verify.specs.declared.fault.VerifyFault.{VerifyFault}
 use Rattle.obs_verify.specs.Bound.{bound_op, moved}
 use Rattle.obs_verify.specs.WellFormed.{first_in, is_truth, is_whole, earlier_of}
 
-slice_get-map : {X Y : Type 0} (f : X → Y) (xs : List X) (i : ℕ) → slice_get (map f xs) i ≡ elim (slice_get xs i) as (λ o. Option Y) [ None ↦ None | Some x ↦ Some (f x) ]
-slice_get-map f [] i = refl
-slice_get-map f (x ∷ xs) zero = refl
-slice_get-map f (x ∷ xs) (suc i) = slice_get-map f xs i
-
 -- a test of what stands at a place is kept by a map that keeps it of each member
 kept_test : {X : Type 0} (test : Option X → Bool) (f : X → X) → ((x : X) → test (Some (f x)) ≡ test (Some x)) → (xs : List X) (i : ℕ) → test (slice_get (map f xs) i) ≡ test (slice_get xs i)
 kept_test test f each [] i = refl
@@ -64,14 +59,13 @@ both_over g (truth a) = truth (atom_over g a)
 
 range_over : (g : ℕ → ℕ) (e : Term) → range (over g e) ≡ range e
 unfolding range over
-range_over g (column c) = refl
-range_over g (constant n) = refl
 range_over g (negative a) = ap (over_one negated) (range_over g a)
 range_over g (plus a b) = ap₂ (over_both summed) (range_over g a) (range_over g b)
 range_over g (minus a b) = ap₂ (over_both lessened) (range_over g a) (range_over g b)
 range_over g (times a b) = ap₂ (over_both multiplied) (range_over g a) (range_over g b)
 range_over g (quotient a b) = ap₂ (over_divisor divided) (range_over g a) (range_over g b)
 range_over g (remainder a b) = ap₂ (over_divisor left_over) (range_over g a) (range_over g b)
+range_over g _ = refl
 
 term_over : (g : ℕ → ℕ) (es : List Expression) (a : ℕ) → term_at (map (both_over g) es) a ≡ over g (term_at es a)
 unfolding both_over over

@@ -116,12 +116,11 @@ moved_read (s ∷ signals) (n ∷ columns) c k same h = elim (eqb_tells s.column
 
 moved_unread : (signals : List StoredSignal) (columns : List ℕ) (c : ℕ) → signal_in signals c ≡ None → moved signals columns c ≡ c
 unfolding moved
-moved_unread [] columns c none = refl
-moved_unread (s ∷ signals) [] c none = refl
 moved_unread (s ∷ signals) (n ∷ columns) c none = elim (eqb_tells s.column c) [
   | inl p ↦ absurd (not_none 0 (sym (number_here s signals c p.1) ∙ none))
   | inr p ↦ rw p.0 (moved_unread signals columns c (none_less (signal_in signals c) (sym (number_after s signals c p.1) ∙ none)))
 ]
+moved_unread _ _ c none = refl
 
 -- an instruction that reads no signal stays
 pub unread_stays : (signals : List StoredSignal) (columns : List ℕ) (op : BzOp) → signal_read signals op ≡ None → bound_op signals columns op ≡ op

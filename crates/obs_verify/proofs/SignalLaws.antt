@@ -22,17 +22,6 @@ either_kind (s ∷ signals) c = here (s.column == c) s.truth (has_kind signals c
     here false true w t a e = e
     here false false w t a e = e
 
--- two tests of the members of a list
-pub either_test : {X : Type 0} (p q : X → Bool) (xs : List X) → list_any (λ x. p x || q x) xs ≡ (list_any p xs || list_any q xs)
-either_test p q [] = refl
-either_test p q (x ∷ xs) = ap (λ b. (p x || q x) || b) (either_test p q xs) ∙ mixed (p x) (q x) (list_any p xs) (list_any q xs)
-  where
-    mixed : (a b c d : Bool) → ((a || b) || (c || d)) ≡ ((a || c) || (b || d))
-    mixed true b c d = refl
-    mixed false true true d = refl
-    mixed false true false d = refl
-    mixed false false c d = refl
-
 pub any-push : {X : Type 0} (p : X → Bool) (xs : List X) (x : X) → list_any p (xs ++ x ∷ []) ≡ (list_any p xs || p x)
 any-push p [] x = or-false (p x)
 any-push p (y ∷ xs) x = ap (λ b. p y || b) (any-push p xs x) ∙ sym (or_assoc (p y) (list_any p xs) (p x))
@@ -48,8 +37,7 @@ unless_left true b fault h = absurd (cc)
 
 pub unless_both : (a b : Bool) (fault : VerifyFault) → a ≡ true → b ≡ true → unless (a && b) fault ≡ None
 unless_both true true fault h k = refl
-unless_both false b fault h k = absurd (cc)
-unless_both true false fault h k = absurd (cc)
+unless_both _ _ fault h k = absurd (cc)
 
 -- the rule of a signal, by what a pass keeps
 pub signal_rule : (program : Program) (items : List StoredSignal) (n k : ℕ) (signal : StoredSignal) (found : Option VerifyFault) → items ≡ program.signals → n ≡ program.width

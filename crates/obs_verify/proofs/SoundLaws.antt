@@ -18,11 +18,10 @@ pub each : {X : Type 0} (rule : ℕ → X → Option VerifyFault) (xs : List X) 
 each {X} rule xs none i d inside = subst (λ (n : ℕ). rule n (slice_index_or xs i d) ≡ None) (zero-add i) (none_of_all rule xs 0 none i d inside)
 
 after : (program : Program) (i : ℕ) (op : ft.FtOp) → has_future_operands program i op ≡ true → IsAfterOperands i op
-after program i ft.TheVariants.True h = tt
-after program i (ft.TheVariants.Load a) h = tt
 after program i (ft.TheVariants.Not g) h = ltb-true g i h
 after program i (ft.TheVariants.And l r) h = (ltb-true l i (and_left _ _ h), ltb-true r i (and_right _ _ h))
 after program i (ft.TheVariants.Until l r w) h = (ltb-true l i (and_left _ _ h), ltb-true r i (and_right _ _ h))
+after program i _ h = tt
 
 pub in_order : (program : Program) → first_in (ft_fault program) 0 program.ft ≡ None → AreInOrder program.ft
 in_order program none i op inside = after program i (slice_index_or program.ft i op) (unless_true _ _ (or_none _ _ (each (ft_fault program) program.ft none i op inside)).0)
@@ -43,9 +42,8 @@ bounded_past program none i op inside = past_window (slice_index_or program.pt i
 
 reports : (fts pts : ℕ) (output : out.Out) → reports_within fts pts output ≡ true → ReportsInstructions fts output
 reports fts pts (out.TheVariants.Formula engine.Ft g name) h = ltb-true g fts h
-reports fts pts (out.TheVariants.Formula engine.Pt g name) h = tt
 reports fts pts (out.TheVariants.Contract engine.Ft l r name) h = (ltb-true l fts (and_left _ _ h), ltb-true r fts (and_right _ _ h))
-reports fts pts (out.TheVariants.Contract engine.Pt l r name) h = tt
+reports fts pts _ h = tt
 
 pub reported : (program : Program) → first_in (output_fault program) 0 program.outs ≡ None → All (ReportsInstructions (length program.ft)) program.outs
 reported program none k output inside = reports (length program.ft) (length program.pt) (slice_index_or program.outs k output) (unless_true _ _ (each (output_fault program) program.outs none k output inside))

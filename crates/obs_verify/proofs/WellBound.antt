@@ -38,10 +38,9 @@ from_each {X} rule xs all = all_none rule xs 0 (λ i d inside. subst (λ (n : �
 bound_at : (signals : List StoredSignal) (columns : List ℕ) (i : ℕ) (d : StoredSignal) → length columns ≡ length signals → i < length signals
     → slice_index_or (bound_signals signals columns) i d ≡ record (slice_index_or signals i d) { column = slice_index columns i }
 unfolding bound_signals
-bound_at [] columns i d same inside = absurd (omega arith)
-bound_at (s ∷ signals) [] i d same inside = absurd (omega arith)
 bound_at (s ∷ signals) (n ∷ columns) zero d same inside = refl
 bound_at (s ∷ signals) (n ∷ columns) (suc i) d same inside = bound_at signals columns i d (omega arith) (omega arith)
+bound_at _ _ i d same inside = absurd (omega arith)
 
 take_bound : (signals : List StoredSignal) (columns : List ℕ) (i : ℕ) → take i (bound_signals signals columns) ≡ bound_signals (take i signals) (take i columns)
 unfolding bound_signals
@@ -52,16 +51,14 @@ take_bound (s ∷ signals) (n ∷ columns) (suc i) = ap (λ ss. record s { colum
 
 any_name : (bytes : List ℕ) (signals : List StoredSignal) (columns : List ℕ) → list_any (λ before. bytes_eq bytes before.name) (bound_signals signals columns) ≡ list_any (λ before. bytes_eq bytes before.name) signals
 unfolding bound_signals
-any_name bytes [] columns = refl
-any_name bytes (s ∷ signals) [] = refl
 any_name bytes (s ∷ signals) (n ∷ columns) = ap (λ b. bytes_eq bytes s.name || b) (any_name bytes signals columns)
+any_name bytes _ _ = refl
 
 any_column : (c : ℕ) (signals : List StoredSignal) (columns : List ℕ) → length columns ≡ length signals → list_any (λ before. before.column == c) (bound_signals signals columns) ≡ list_any (λ n. n == c) columns
 unfolding bound_signals
 any_column c [] [] same = refl
-any_column c [] (n ∷ columns) same = absurd (omega arith)
-any_column c (s ∷ signals) [] same = absurd (omega arith)
 any_column c (s ∷ signals) (n ∷ columns) same = ap (λ b. (n == c) || b) (any_column c signals columns (omega arith))
+any_column c _ _ same = absurd (omega arith)
 
 none_earlier : (columns : List ℕ) (i : ℕ) → AreDifferent columns → i < length columns → list_any (λ n. n == slice_index columns i) (take i columns) ≡ false
 none_earlier columns i different inside = list_any_none (λ n. n == slice_index columns i) (take i columns) (λ k d below.
@@ -88,12 +85,11 @@ signal_kept program width columns same below different none = from_each (signal_
 moved_at : (signals : List StoredSignal) (columns : List ℕ) (c j : ℕ) (d : StoredSignal) → length columns ≡ length signals → j < length signals
     → list_any (λ before. before.column == c) (take j signals) ≡ false → (slice_index_or signals j d).column ≡ c → moved signals columns c ≡ slice_index columns j
 unfolding moved
-moved_at [] columns c j d same inside none at = absurd (omega arith)
-moved_at (s ∷ signals) [] c j d same inside none at = absurd (omega arith)
 moved_at (s ∷ signals) (n ∷ columns) c zero d same inside none at = rw (eq-eqb s.column c at) refl
 moved_at (s ∷ signals) (n ∷ columns) c (suc j) d same inside none at =
     let p = or_parts (s.column == c) (list_any (λ before. before.column == c) (take j signals)) none in
     rw p.0 (moved_at signals columns c j d (omega arith) (omega arith) p.1 at)
+moved_at _ _ c j d same inside none at = absurd (omega arith)
 
 column_kept : (program : Program) (width : ℕ) (columns : List ℕ) → program.version ≡ 2 → length columns ≡ length program.signals → All (λ c. c < width) columns
     → first_in (signal_fault program) 0 program.signals ≡ None → (c : ℕ) (t : Bool) → is_column_of program c t ≡ true → is_column_of (bound program width columns) (moved program.signals columns c) t ≡ true
@@ -123,14 +119,7 @@ operands_kept program width columns two same below none i (Column c) h = column_
 operands_kept program width columns two same below none i (IsTrue c) h = column_kept program width columns two same below none c true h
 operands_kept program width columns two same below none i (Const n) h = refl
 operands_kept program width columns two same below none i (Neg a) h = whole_before_kept program.signals columns program.bz i a ∙ h
-operands_kept program width columns two same below none i (Add a b) h = and_from _ _ (whole_before_kept program.signals columns program.bz i a ∙ and_left _ _ h) (whole_before_kept program.signals columns program.bz i b ∙ and_right _ _ h)
-operands_kept program width columns two same below none i (Sub a b) h = and_from _ _ (whole_before_kept program.signals columns program.bz i a ∙ and_left _ _ h) (whole_before_kept program.signals columns program.bz i b ∙ and_right _ _ h)
-operands_kept program width columns two same below none i (Mul a b) h = and_from _ _ (whole_before_kept program.signals columns program.bz i a ∙ and_left _ _ h) (whole_before_kept program.signals columns program.bz i b ∙ and_right _ _ h)
-operands_kept program width columns two same below none i (Div a b) h = and_from _ _ (whole_before_kept program.signals columns program.bz i a ∙ and_left _ _ h) (whole_before_kept program.signals columns program.bz i b ∙ and_right _ _ h)
-operands_kept program width columns two same below none i (Rem a b) h = and_from _ _ (whole_before_kept program.signals columns program.bz i a ∙ and_left _ _ h) (whole_before_kept program.signals columns program.bz i b ∙ and_right _ _ h)
-operands_kept program width columns two same below none i (Eq a b) h = and_from _ _ (whole_before_kept program.signals columns program.bz i a ∙ and_left _ _ h) (whole_before_kept program.signals columns program.bz i b ∙ and_right _ _ h)
-operands_kept program width columns two same below none i (Lt a b) h = and_from _ _ (whole_before_kept program.signals columns program.bz i a ∙ and_left _ _ h) (whole_before_kept program.signals columns program.bz i b ∙ and_right _ _ h)
-operands_kept program width columns two same below none i (Le a b) h = and_from _ _ (whole_before_kept program.signals columns program.bz i a ∙ and_left _ _ h) (whole_before_kept program.signals columns program.bz i b ∙ and_right _ _ h)
+operands_kept program width columns two same below none i _ h = and_from _ _ (whole_before_kept program.signals columns program.bz i _ ∙ and_left _ _ h) (whole_before_kept program.signals columns program.bz i _ ∙ and_right _ _ h)
 
 bz_kept : (program : Program) (width : ℕ) (columns : List ℕ) → program.version ≡ 2 → length columns ≡ length program.signals → All (λ c. c < width) columns
     → first_in (signal_fault program) 0 program.signals ≡ None → first_in (bz_fault program) 0 program.bz ≡ None

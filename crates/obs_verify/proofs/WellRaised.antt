@@ -136,10 +136,9 @@ listed_at a top (s ∷ ss) (suc i) d l inside = let r = listed_at (s.column + 1)
 
 rising : (a top : ℕ) (ss : List StoredSignal) (j i : ℕ) (d : StoredSignal) → Listed a top ss → j < i → i < length ss → (slice_index_or ss j d).column < (slice_index_or ss i d).column
 unfolding Listed
-rising a top [] j i d l before inside = absurd (omega arith)
-rising a top (s ∷ ss) j zero d l before inside = absurd (omega arith)
 rising a top (s ∷ ss) zero (suc i) d l before inside = let r = listed_at (s.column + 1) top ss i d l.3 (omega arith) in omega (arith, r.from)
 rising a top (s ∷ ss) (suc j) (suc i) d l before inside = rising (s.column + 1) top ss j i d l.3 (omega arith) (omega arith)
+rising a top _ j _ d l before inside = absurd (omega arith)
 
 few_listed : (a top : ℕ) (ss : List StoredSignal) → a ≤ top → Listed a top ss → a + length ss ≤ top
 unfolding Listed

@@ -9,9 +9,6 @@ use Rattle.scq_ring.specs.Runs.{window, ring_index_of}
 pub ring_index_wraps : (o k n : ℕ) → ((k < n - o) × (ring_index_of o k n ≡ o + k)) ⊎ ((n - o ≤ k) × (ring_index_of o k n ≡ k - (n - o)))
 ring_index_wraps o k n = grind (arith, nat_tests)
 
-pub ring_index_within : (o k n : ℕ) → o < n → k < n → ring_index_of o k n < n
-ring_index_within o k n o_in k_in = elim (ring_index_wraps o k n) [ inl w ↦ omega arith | inr w ↦ omega arith ]
-
 -- the index after one in range is in range
 pub next_within : (o n : ℕ) → o < n → ring_index_of o 1 n < n
 next_within o n o_in = elim (ring_index_wraps o 1 n) [ inl w ↦ omega arith | inr w ↦ omega arith ]

@@ -1,7 +1,7 @@
 -- What a ring and its slots represent: a frontier, a low time, and a verdict for each time from the low time to the
 -- frontier - 1.
 use Rattle.std.specs.Prelude.{◌≡◌, ◌≢◌, ℕ, ◌+◌, ◌-◌, ◌<◌, ◌≤◌, ◌⊎◌, Bool, false, List, [], ◌∷◌, ◌++◌, length}
-use Rattle.std.specs.Prelude.{slice_index_or, take, drop, if◌then◌else◌, nat_le, nat_lt, ⊤}
+use Rattle.std.specs.Prelude.{max, slice_index_or, take, drop, if◌then◌else◌, nat_le, nat_lt, ⊤}
 use Rattle.scq_ring.specs.declared.runs.Ring.{Ring}
 use Rattle.scq_ring.specs.declared.runs.Slot.{Slot}
 use Rattle.scq_ring.specs.declared.runs.Seen.{Seen}
@@ -130,6 +130,17 @@ runs_from ring slots from = runs_to from (runs_of ring slots) + (if nat_lt from 
 abbrev pub TakesRun : Ring → List Slot → ℕ → Seen → Type 0
 TakesRun ring slots from (Run end value) = runs_from ring slots (end + 1) + 1 ≤ runs_from ring slots from
 TakesRun ring slots from Nothing = ⊤
+
+-- what a write of the value up to this time leaves: no verdict that is kept changes, and times are let go no further
+-- than the slots ask
+pub record IsWritten (old : Ring) (old_slots : List Slot) (upto : ℕ) (value : Bool) (new : Ring)
+    (new_slots : List Slot) : Type 0 where
+  pub belongs : Belongs new new_slots
+  pub frontier : frontier_of new ≡ upto + 1
+  pub rises : low_of old ≤ low_of new
+  pub bounded : low_of new ≤ max (low_of old) (upto + 1 - length old_slots)
+  pub kept : (t : ℕ) → low_of new ≤ t → t < frontier_of old → verdict_at new new_slots t ≡ verdict_at old old_slots t
+  pub written : (t : ℕ) → frontier_of old ≤ t → t ≤ upto → verdict_at new new_slots t ≡ value
 
 -- the slot holds no verdict
 unfoldable pub IsClear : Slot → Type 0

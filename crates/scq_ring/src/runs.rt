@@ -2,7 +2,7 @@
 
 ghost use Rattle.std.specs.Prelude.{◌≡◌, ◌≢◌, ℕ, ◌+◌, ◌-◌, ◌^◌, ◌<◌, ◌≤◌, max, length, List, nat_lt, if◌then◌else◌};
 ghost use Rattle.mltl_base.specs.declared.limits.TheConstants.{TIME_END};
-ghost use Rattle.scq_ring.specs.Runs.{Belongs, IsAround, IsClear, IsClosed, IsTurned, KeepsNewest, Shows, TakesRun, frontier_of, low_of, ring_index_of, runs_of, runs_to, upto_at, verdict_at};
+ghost use Rattle.scq_ring.specs.Runs.{Belongs, IsAround, IsClear, IsClosed, IsTurned, IsWritten, KeepsNewest, Shows, TakesRun, frontier_of, low_of, ring_index_of, runs_of, runs_to, upto_at, verdict_at};
 ghost use Rattle.scq_ring.specs.declared.runs.Slot.{Slot};
 
 use mltl_base::steps::Steps;
@@ -111,20 +111,13 @@ impl Ring {
         requires belongs { Belongs self.old slots.old }
         requires ahead { frontier_of self.old ≤ upto }
         requires in_time { upto < TIME_END }
-        ensures belongs { Belongs self.new slots.new }
-        ensures frontier { frontier_of self.new ≡ upto + 1 }
+        ensures written { IsWritten self.old slots.old upto value self.new slots.new }
 
-        // What is kept: a write of the last verdict lets nothing go.
-        ensures rises { low_of self.old ≤ low_of self.new }
-        ensures bounded { low_of self.new ≤ max (low_of self.old) (upto + 1 - length slots.old) }
+        // A write of the last verdict lets nothing go.
         ensures stays { 0 < frontier_of self.old
             → value ≡ verdict_at self.old slots.old (frontier_of self.old - 1)
             → low_of self.new ≡ low_of self.old }
 
-        ensures kept { (t : ℕ) → low_of self.new ≤ t → t < frontier_of self.old
-            → verdict_at self.new slots.new t ≡ verdict_at self.old slots.old t }
-        ensures written { (t : ℕ) → frontier_of self.old ≤ t → t ≤ upto
-            → verdict_at self.new slots.new t ≡ value }
         ensures step { steps.new ≡ steps.old + 1 }
     {
         steps.tick();

@@ -93,12 +93,7 @@ terms_natural (remainder a b) es h g = new_natural (whole (remainder a b)) _ h (
 
 operands_natural : (a : Atom) (es : List Expression) → AtomNatural a → AreNatural es → AreNatural (add_operands a es)
 operands_natural (is_true c) es h g = g
-operands_natural (equal a b) es h g = terms_natural b _ h.1 (terms_natural a es h.0 g)
-operands_natural (less a b) es h g = terms_natural b _ h.1 (terms_natural a es h.0 g)
-operands_natural (at_most a b) es h g = terms_natural b _ h.1 (terms_natural a es h.0 g)
-operands_natural (different a b) es h g = terms_natural b _ h.1 (terms_natural a es h.0 g)
-operands_natural (greater a b) es h g = terms_natural b _ h.1 (terms_natural a es h.0 g)
-operands_natural (at_least a b) es h g = terms_natural b _ h.1 (terms_natural a es h.0 g)
+operands_natural _ es h g = terms_natural _ _ h.1 (terms_natural _ es h.0 g)
 
 expressions_natural : (p : Core) (es : List Expression) → CoreNatural p → AreNatural es → AreNatural (add_expressions p es)
 unfolding add_expressions
@@ -123,21 +118,9 @@ cores_natural (a ∷ outs) h = each_append CoreNatural (cores_of_output a.output
 
 instructions_counted : (all es : List Expression) → AreNatural es → HaveNoNegatives (map (bz_instruction all) es)
 instructions_counted all [] h = tt
-instructions_counted all (whole (column c) ∷ es) h = (tt, instructions_counted all es h.1)
 instructions_counted all (whole (constant n) ∷ es) h = (h.0, instructions_counted all es h.1)
-instructions_counted all (whole (negative a) ∷ es) h = (tt, instructions_counted all es h.1)
-instructions_counted all (whole (plus a b) ∷ es) h = (tt, instructions_counted all es h.1)
-instructions_counted all (whole (minus a b) ∷ es) h = (tt, instructions_counted all es h.1)
-instructions_counted all (whole (times a b) ∷ es) h = (tt, instructions_counted all es h.1)
-instructions_counted all (whole (quotient a b) ∷ es) h = (tt, instructions_counted all es h.1)
-instructions_counted all (whole (remainder a b) ∷ es) h = (tt, instructions_counted all es h.1)
 instructions_counted all (programs.truth (is_true c) ∷ es) h = (tt, instructions_counted all es h.1)
-instructions_counted all (programs.truth (equal a b) ∷ es) h = (tt, instructions_counted all es h.1)
-instructions_counted all (programs.truth (less a b) ∷ es) h = (tt, instructions_counted all es h.1)
-instructions_counted all (programs.truth (at_most a b) ∷ es) h = (tt, instructions_counted all es h.1)
-instructions_counted all (programs.truth (different a b) ∷ es) h = (tt, instructions_counted all es h.1)
-instructions_counted all (programs.truth (greater a b) ∷ es) h = (tt, instructions_counted all es h.1)
-instructions_counted all (programs.truth (at_least a b) ∷ es) h = (tt, instructions_counted all es h.1)
+instructions_counted all (e ∷ es) h = (tt, instructions_counted all es h.1)
 
 -- ---- columns
 

@@ -34,12 +34,7 @@ both_over columns a b = ap₂ or_later (term_fault_over columns a) (term_fault_o
 atom_fault_over : (columns : List ℕ) (a : Atom) → atom_fault (atom_over columns a) ≡ atom_fault a
 unfolding atom_over
 atom_fault_over columns (is_true s) = refl
-atom_fault_over columns (equal a b) = both_over columns a b
-atom_fault_over columns (less a b) = both_over columns a b
-atom_fault_over columns (at_most a b) = both_over columns a b
-atom_fault_over columns (different a b) = both_over columns a b
-atom_fault_over columns (greater a b) = both_over columns a b
-atom_fault_over columns (at_least a b) = both_over columns a b
+atom_fault_over columns _ = both_over columns _ _
 
 pub fault_over : (columns : List ℕ) (p : Formula) → formula_fault (formula_over columns p) ≡ formula_fault p
 unfolding formula_fault formula_over
@@ -66,9 +61,6 @@ either a b = a || b
 -- columns don't change a tense
 pub past_over : (columns : List ℕ) (p : Formula) → has_past (formula_over columns p) ≡ has_past p
 unfolding has_past formula_over either
-past_over columns full.truth = refl
-past_over columns falsity = refl
-past_over columns (atom a) = refl
 past_over columns (negation p) = past_over columns p
 past_over columns (conjunction p q) = ap₂ either (past_over columns p) (past_over columns q)
 past_over columns (disjunction p q) = ap₂ either (past_over columns p) (past_over columns q)
@@ -78,27 +70,19 @@ past_over columns (finally i p) = past_over columns p
 past_over columns (globally i p) = past_over columns p
 past_over columns (until i p q) = ap₂ either (past_over columns p) (past_over columns q)
 past_over columns (release i p q) = ap₂ either (past_over columns p) (past_over columns q)
-past_over columns (once i p) = refl
-past_over columns (historically i p) = refl
-past_over columns (since i p q) = refl
+past_over columns _ = refl
 
 pub future_over : (columns : List ℕ) (p : Formula) → has_future (formula_over columns p) ≡ has_future p
 unfolding has_future formula_over either
-future_over columns full.truth = refl
-future_over columns falsity = refl
-future_over columns (atom a) = refl
 future_over columns (negation p) = future_over columns p
 future_over columns (conjunction p q) = ap₂ either (future_over columns p) (future_over columns q)
 future_over columns (disjunction p q) = ap₂ either (future_over columns p) (future_over columns q)
 future_over columns (implication p q) = ap₂ either (future_over columns p) (future_over columns q)
 future_over columns (equivalence p q) = ap₂ either (future_over columns p) (future_over columns q)
-future_over columns (finally i p) = refl
-future_over columns (globally i p) = refl
-future_over columns (until i p q) = refl
-future_over columns (release i p q) = refl
 future_over columns (once i p) = future_over columns p
 future_over columns (historically i p) = future_over columns p
 future_over columns (since i p q) = ap₂ either (future_over columns p) (future_over columns q)
+future_over columns _ = refl
 
 -- ---- definitions
 

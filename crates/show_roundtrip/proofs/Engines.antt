@@ -4,7 +4,7 @@ use Rattle.std.proofs.Common.{◌≡◌, ◌∙◌, ℕ, ◌+◌, ◌<◌, ◌�
 use Rattle.std.specs.Prelude.{slice_get, slice_index_or, nat_le, ◌⊎◌, ⊤}
 use Rattle.std.proofs.lemmas.Option.{slice_get_within, slice_get-get_or, same_Some}
 use Rattle.std.proofs.lemmas.List.{length-append}
-use Rattle.std.proofs.lemmas.Bool.{and_parts}
+use Rattle.std.proofs.lemmas.Bool.{and_parts, leb-true}
 use Rattle.std.proofs.lemmas.Bool.Decides.{nat_tests}
 use Rattle.mltl_base.specs.declared.interval.Engine.TheVariants.{Ft, Pt}
 use Rattle.mltl_base.specs.declared.interval.Interval.{Interval}
@@ -25,12 +25,13 @@ use Rattle.obs_show.specs.Lines.{Reference, always, named, Form, Line, define}
 use Rattle.obs_show.specs.Naming.{ft_name, pt_name, bz_reference, ft_called, ft_reference, pt_called, pt_reference}
 use Rattle.obs_show.specs.Text.{ft_form, pt_form, ft_line, pt_line}
 use Rattle.obs_show.specs.Weight.{formula_weight}
+use Rattle.c2po_nodes.proofs.Places.{get_left}
 use Rattle.show_roundtrip.specs.Said.{form_shape, line_body}
 use Rattle.show_roundtrip.specs.Unfolded.{AreNew}
 use Rattle.show_roundtrip.proofs.Passing.{form_value}
 use Rattle.show_roundtrip.proofs.Definable.{IsFormulaDefinable, AreDefinable, formula_definable}
 use Rattle.show_roundtrip.proofs.Values.{IsLater, declared_here, MeansFormula, formula_later, FormSaysFormula, negation_says, and_says, until_says, since_says, window_kept}
-use Rattle.show_roundtrip.proofs.Walk.{Reaches, reaches_at_once, get_push, get_seam, get_kept, columns_in, IsTruthExpression, KnowsOne, BzKnown, lines_from, put, put_is, defined_later, reaches_define, new_head, knows_later, signals_later}
+use Rattle.show_roundtrip.proofs.Walk.{Reaches, reaches_at_once, get_push, get_seam, columns_in, IsTruthExpression, KnowsOne, BzKnown, lines_from, put, put_is, defined_later, reaches_define, new_head, knows_later, signals_later}
 
 -- what is known of the first instructions of an engine, by what each is called
 abbrev pub KnowsCores : (ℕ → Reference) → List ℕ → Env → List Core → Type 0
@@ -97,10 +98,7 @@ below g i n h e = grind (arith, nat_tests)
 window_within : (i : Interval) → is_window i ≡ true → interval i.lo i.hi ≡ i
 window_within i h =
     let parts : (nat_le i.lo i.hi ≡ true) × (nat_le i.hi MAX_BOUND ≡ true) = and_parts (nat_le i.lo i.hi) (nat_le i.hi MAX_BOUND) h in
-    window_kept i (at_most i.lo i.hi parts.0) (at_most i.hi MAX_BOUND parts.1)
-  where
-    at_most : (a b : ℕ) → nat_le a b ≡ true → a ≤ b
-    at_most a b h = grind (arith, nat_tests)
+    window_kept i (leb-true i.lo i.hi parts.0) (leb-true i.hi MAX_BOUND parts.1)
 
 map_at : {X Y : Type 0} (f : X → Y) (xs : List X) (k : ℕ) (x : X) (d : Y) → slice_get xs k ≡ Some x → slice_index_or (map f xs) k d ≡ f x
 map_at f [] k x d e = absurd (cc)
@@ -170,7 +168,7 @@ HaveFutureOperands program i (op ∷ ops) = (has_future_operands program i op �
 future_kept : (loaded : List Atom) (ops : List ft.FtOp) (before : List Core) (i : ℕ) (c : Core) → slice_get before i ≡ Some c → slice_get (formulas_after loaded before ops) i ≡ Some c
 unfolding formulas_after
 future_kept loaded [] before i c h = h
-future_kept loaded (op ∷ ops) before i c h = future_kept loaded ops (before ++ op_formula loaded before op ∷ []) i c (get_kept before (op_formula loaded before op ∷ []) i c h)
+future_kept loaded (op ∷ ops) before i c h = future_kept loaded ops (before ++ op_formula loaded before op ∷ []) i c (get_left before (op_formula loaded before op ∷ []) i c h)
 
 future_here : (program : Program) (op : ft.FtOp) (ops : List ft.FtOp) (before : List Core) → formulas_after (atoms program.bz) before (op ∷ ops) ≡ cores_of program Ft
     → slice_get (cores_of program Ft) (length before) ≡ Some (op_formula (atoms program.bz) before op)
@@ -234,7 +232,7 @@ HavePastOperands program i (op ∷ ops) = (has_past_operands program i op ≡ tr
 past_kept : (loaded : List Atom) (ops : List pt.PtOp) (before : List Core) (i : ℕ) (c : Core) → slice_get before i ≡ Some c → slice_get (past_formulas_after loaded before ops) i ≡ Some c
 unfolding past_formulas_after
 past_kept loaded [] before i c h = h
-past_kept loaded (op ∷ ops) before i c h = past_kept loaded ops (before ++ past_formula_of loaded before op ∷ []) i c (get_kept before (past_formula_of loaded before op ∷ []) i c h)
+past_kept loaded (op ∷ ops) before i c h = past_kept loaded ops (before ++ past_formula_of loaded before op ∷ []) i c (get_left before (past_formula_of loaded before op ∷ []) i c h)
 
 past_here : (program : Program) (op : pt.PtOp) (ops : List pt.PtOp) (before : List Core) → past_formulas_after (atoms program.bz) before (op ∷ ops) ≡ cores_of program Pt
     → slice_get (cores_of program Pt) (length before) ≡ Some (past_formula_of (atoms program.bz) before op)

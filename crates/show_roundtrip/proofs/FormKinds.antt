@@ -21,9 +21,10 @@ use Rattle.c2po_types.specs.Scopes.{outside}
 use Rattle.c2po_types.specs.Expressions.{kind_of, two, of_one, of_two, within_bounds}
 use Rattle.c2po_types.specs.Items.{new, with_value, formula_kind, contract_kind}
 use Rattle.obs_show.specs.Lines.{Reference, always, named, number, Form, minus, arith as computes, compare, negation, logic, between, input, define}
+use Rattle.c2po_types.proofs.SignalLaws.{signal_last}
+use Rattle.std.proofs.lemmas.Slice.Eq.{bytes_eq-Decides}
 use Rattle.show_roundtrip.specs.Said.{reference_shape, form_shape}
-use Rattle.show_roundtrip.proofs.Values.{same_bytes}
-use Rattle.show_roundtrip.proofs.Fresh.{signal_added, with_is}
+use Rattle.show_roundtrip.proofs.Fresh.{with_is}
 use Rattle.show_roundtrip.proofs.Passing.{KindPasses}
 
 -- ---- tables of names
@@ -43,7 +44,7 @@ push_later (e ∷ names) x m y k h = go (push_later names x m y k) (bytes_eq y e
 
 -- the one more name stands for what was put, where it is new
 pub pushed_entry : (names : Table Meaning) (x : List ℕ) (m : Meaning) → is_named x names ≡ false → entry_of x (names ++ (x, m) ∷ []) ≡ Some m
-pushed_entry [] x m h = ap (λ (b : Bool). if b then Some m else None) (same_bytes x)
+pushed_entry [] x m h = ap (λ (b : Bool). if b then Some m else None) ((bytes_eq-Decides x x).1 refl)
 pushed_entry (e ∷ names) x m h = go (pushed_entry names x m) (bytes_eq x e.0) h
   where
     go : (is_named x names ≡ false → entry_of x (names ++ (x, m) ∷ []) ≡ Some m) → (b : Bool) → is_some (if b then Some e.1 else entry_of x names) ≡ false
@@ -74,14 +75,12 @@ HasKindIn names (named x) k = entry_of x names ≡ Some (Value k)
 HasKindIn names (number z) k = k ≡ whole
 
 pub kind_later : (names later : Table Meaning) (x : Reference) (k : Kind) → HasLater names later → HasKindIn names x k → HasKindIn later x k
-kind_later names later always k g h = h
 kind_later names later (named x) k g h = g x (Value k) h
-kind_later names later (number z) k g h = h
+kind_later names later _ k g h = h
 
 reference_kind : (n : ℕ) (x : Reference) (d : Declarations) (k : Kind) → HasKindIn d.names x k → kind_of (reference_shape n x) (outside d) ≡ Ok k
-reference_kind n always d k h = rw h refl
 reference_kind n (named x) d k h = ap (known_value n) h
-reference_kind n (number z) d k h = rw h refl
+reference_kind n _ d k h = rw h refl
 
 two_kinds : (n : ℕ) (x y : Reference) (d : Declarations) (k : Kind) → HasKindIn d.names x k → HasKindIn d.names y k
     → two (kind_of (reference_shape n x) (outside d)) (kind_of (reference_shape n y) (outside d)) ≡ Ok (k, k)
@@ -114,10 +113,10 @@ between_kind op i x y d window h g n =
 
 -- ---- lines
 
-pub input_passes : (n : ℕ) (x : List ℕ) (b : Bool) (d : Declarations) → is_named x d.names ≡ false → nat_le MAX_SIGNALS (length d.signals) ≡ false → KindPasses n (input x b) d (signal_added b x d)
+pub input_passes : (n : ℕ) (x : List ℕ) (b : Bool) (d : Declarations) → is_named x d.names ≡ false → nat_le MAX_SIGNALS (length d.signals) ≡ false → KindPasses n (input x b) d (signal_last b x d)
 input_passes n x b d free few =
     with_is n x b d
-    ∙ ap₂ (λ (named full : Bool). (let m : Checked Declarations = if named then Err (fault.Twice n) else if full then Err (fault.Signals n) else Ok (signal_added b x d) in m) >>= λ c. Ok c) free few
+    ∙ ap₂ (λ (named full : Bool). (let m : Checked Declarations = if named then Err (fault.Twice n) else if full then Err (fault.Signals n) else Ok (signal_last b x d) in m) >>= λ c. Ok c) free few
 
 pub define_passes : (n : ℕ) (x : List ℕ) (f : Form) (d : Declarations) (k : Kind) → is_named x d.names ≡ false → FormHasKind d f k → KindPasses n (define x f) d (with_value x k d)
 define_passes n x f d k free kind = (

@@ -18,6 +18,7 @@ use Rattle.mltl_base.specs.Queues.{worst_delays}
 use Rattle.obs_verify.specs.declared.fault.VerifyFault.{VerifyFault}
 use Rattle.obs_verify.specs.WellFormed.{unless, earlier_of, first_in, width_fault, is_new_signal, signal_fault, has_operands, bz_fault, has_future_operands, has_future_window, ft_fault, late_fault, has_past_operands, has_past_window, pt_fault, reports_within, output_fault, IsWellFormed}
 use Rattle.obs_verify.proofs.SoundOps.{all_sound}
+use Rattle.obs_verify.proofs.RuleLaws.{unless_true}
 use Rattle.show_roundtrip.proofs.Walk.{HaveOwnColumns, HaveOperands}
 use Rattle.show_roundtrip.proofs.Engines.{HaveFutureOperands, HavePastOperands}
 use Rattle.show_roundtrip.proofs.Whole.{HaveReports, CanBeSaid}
@@ -29,10 +30,6 @@ none_left (Some f) b e = absurd (cc)
 pub none_right : (a b : Option VerifyFault) → earlier_of a b ≡ None → b ≡ None
 none_right None b e = e
 none_right (Some f) b e = absurd (cc)
-
-pub passed : (test : Bool) (fault : VerifyFault) → unless test fault ≡ None → test ≡ true
-passed true fault e = refl
-passed false fault e = absurd (cc)
 
 -- the first of a list without a fault, and the others
 pub first_none : {X : Type 0} (rule : ℕ → X → Option VerifyFault) (k : ℕ) (x : X) (xs : List X) → first_in rule k (x ∷ xs) ≡ None → rule k x ≡ None
@@ -48,49 +45,49 @@ others_none rule k x xs e =
 operands_formed : (program : Program) (i : ℕ) (ops : List BzOp) → first_in (bz_fault program) i ops ≡ None → HaveOperands program i ops
 operands_formed program i [] e = tt
 operands_formed program i (op ∷ ops) e = (
-  passed (has_operands program i op) _ (none_left (unless (has_operands program i op) _) _ (first_none (bz_fault program) i op ops e)),
+  unless_true (has_operands program i op) _ (none_left (unless (has_operands program i op) _) _ (first_none (bz_fault program) i op ops e)),
   operands_formed program (i + 1) ops (others_none (bz_fault program) i op ops e),
 )
 
 future_formed : (program : Program) (i : ℕ) (ops : List FtOp) → first_in (ft_fault program) i ops ≡ None → HaveFutureOperands program i ops
 future_formed program i [] e = tt
 future_formed program i (op ∷ ops) e = (
-  passed (has_future_operands program i op) _ (none_left _ _ (first_none (ft_fault program) i op ops e)),
-  passed (has_future_window op) _ (none_right (unless (has_future_operands program i op) _) _ (first_none (ft_fault program) i op ops e)),
+  unless_true (has_future_operands program i op) _ (none_left _ _ (first_none (ft_fault program) i op ops e)),
+  unless_true (has_future_window op) _ (none_right (unless (has_future_operands program i op) _) _ (first_none (ft_fault program) i op ops e)),
   future_formed program (i + 1) ops (others_none (ft_fault program) i op ops e),
 )
 
 past_formed : (program : Program) (i : ℕ) (ops : List PtOp) → first_in (pt_fault program) i ops ≡ None → HavePastOperands program i ops
 past_formed program i [] e = tt
 past_formed program i (op ∷ ops) e = (
-  passed (has_past_operands program i op) _ (none_left _ _ (first_none (pt_fault program) i op ops e)),
-  passed (has_past_window op) _ (none_right (unless (has_past_operands program i op) _) _ (first_none (pt_fault program) i op ops e)),
+  unless_true (has_past_operands program i op) _ (none_left _ _ (first_none (pt_fault program) i op ops e)),
+  unless_true (has_past_window op) _ (none_right (unless (has_past_operands program i op) _) _ (first_none (pt_fault program) i op ops e)),
   past_formed program (i + 1) ops (others_none (pt_fault program) i op ops e),
 )
 
 reports_formed : (program : Program) (k : ℕ) (outs : List Out) → first_in (output_fault program) k outs ≡ None → HaveReports program outs
 reports_formed program k [] e = tt
 reports_formed program k (o ∷ outs) e =
-    (passed (reports_within (length program.ft) (length program.pt) o) _ (first_none (output_fault program) k o outs e), reports_formed program (k + 1) outs (others_none (output_fault program) k o outs e))
+    (unless_true (reports_within (length program.ft) (length program.pt) o) _ (first_none (output_fault program) k o outs e), reports_formed program (k + 1) outs (others_none (output_fault program) k o outs e))
 
 -- columns of signals, each looked at after those before it
 abbrev AreNewAfter : List StoredSignal → List StoredSignal → Type 0
 AreNewAfter front [] = ⊤
 AreNewAfter front (s ∷ ss) = (list_any (λ t. t.column == s.column) front ≡ false) × AreNewAfter (front ++ s ∷ []) ss
 
-pub not_passes : (b : Bool) → not b ≡ true → b ≡ false
-not_passes true e = absurd (cc)
-not_passes false e = refl
+pub not_true : (b : Bool) → not b ≡ true → b ≡ false
+not_true true e = absurd (cc)
+not_true false e = refl
 
 signals_formed : (program : Program) (front ss : List StoredSignal) (k : ℕ) → program.signals ≡ front ++ ss → length front ≡ k → first_in (signal_fault program) k ss ≡ None → AreNewAfter front ss
 signals_formed program front [] k all len e = tt
 signals_formed program front (s ∷ ss) k all len e =
-    let test : is_new_signal program.width (take k program.signals) s ≡ true = passed (is_new_signal program.width (take k program.signals) s) _ (first_none (signal_fault program) k s ss e) in
+    let test : is_new_signal program.width (take k program.signals) s ≡ true = unless_true (is_new_signal program.width (take k program.signals) s) _ (first_none (signal_fault program) k s ss e) in
     let cut : take k program.signals ≡ front = ap (λ (xs : List StoredSignal). take k xs) all ∙ ap (λ (n : ℕ). take n (front ++ s ∷ ss)) (sym len) ∙ take-append_seam front (s ∷ ss) in
     let here : is_new_signal program.width front s ≡ true = ap (λ (xs : List StoredSignal). is_new_signal program.width xs s) (sym cut) ∙ test in
     let both : (((nat_lt s.column program.width && not (list_any (λ t. t.column == s.column) front)) ≡ true) × (not (list_any (λ t. bytes_eq s.name t.name) front) ≡ true)) = and_parts (nat_lt s.column program.width && not (list_any (λ t. t.column == s.column) front)) (not (list_any (λ t. bytes_eq s.name t.name) front)) here in
     let parts : (nat_lt s.column program.width ≡ true) × (not (list_any (λ t. t.column == s.column) front) ≡ true) = and_parts (nat_lt s.column program.width) (not (list_any (λ t. t.column == s.column) front)) both.0 in (
-      not_passes (list_any (λ t. t.column == s.column) front) parts.1,
+      not_true (list_any (λ t. t.column == s.column) front) parts.1,
       signals_formed program (front ++ s ∷ []) ss (k + 1) (all ∙ sym (append_assoc front (s ∷ []) ss)) (omega (arith, length-append front (s ∷ []))) (others_none (signal_fault program) k s ss e),
     )
 

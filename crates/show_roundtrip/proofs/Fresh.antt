@@ -28,30 +28,16 @@ use Rattle.c2po_unfold.specs.Environment.{Env, Known, nothing, value, declare, o
 use Rattle.c2po_types.specs.Outputs.{Place, before, place_after, with_signals}
 use Rattle.c2po_types.proofs.Ruling.{all-checked}
 use Rattle.obs_show.specs.Lines.{Reference, Form, Line, input, define, formula, contract}
+use Rattle.c2po_types.proofs.SignalLaws.{signal_last}
+use Rattle.c2po_types.proofs.Parts.{ok-inj, bind-ok, when-ok, when_ranged-ok}
 use Rattle.show_roundtrip.specs.Said.{reference_shape, form_shape, kind_name, line_body, line_item, line_items}
 use Rattle.show_roundtrip.specs.Unfolded.{IsNew, AreNew}
 use Rattle.show_roundtrip.proofs.Whole.{input_declares}
 
--- a step that succeeds goes on from what the step before found
-pub bind_ok : {X Y : Type 0} (m : Checked X) (f : X → Checked Y) (y : Y) → (m >>= f) ≡ Ok y → (x : X) × (m ≡ Ok x) × (f x ≡ Ok y)
-bind_ok (Ok x) f y e = (x, refl, e)
-bind_ok (Err fault) f y e = absurd (cc)
-
--- a test that must fail, or hold
+-- a test that must fail
 pub guard_off : {X : Type 0} (b : Bool) (fault : TypeFault) (rest : Checked X) (x : X) → (if b then Err fault else rest) ≡ Ok x → (b ≡ false) × (rest ≡ Ok x)
 guard_off true fault rest x e = absurd (cc)
 guard_off false fault rest x e = (refl, e)
-
-guard_on : {X : Type 0} (b : Bool) (fault : TypeFault) (rest : Checked X) (x : X) → (if b then rest else Err fault) ≡ Ok x → rest ≡ Ok x
-guard_on true fault rest x e = e
-guard_on false fault rest x e = absurd (cc)
-
-guard_none : (line : ℕ) (o : Option NoRange) (rest : Checked State) (s : State) → when_ranged line o rest ≡ Ok s → rest ≡ Ok s
-guard_none line None rest s e = e
-guard_none line (Some why) rest s e = absurd (cc)
-
-ok_same : {X : Type 0} (x y : X) → ◌≡◌ {A = Checked X} (Ok x) (Ok y) → x ≡ y
-ok_same x y e = cc
 
 -- a name that no table entry has isn't known
 abbrev pub Agrees : Table Meaning → Env → Type 0
@@ -88,13 +74,13 @@ record Stepped (n : ℕ) (l : Line) (p : Place) (t : State) : Type 0 where
 
 define_ok : (n : ℕ) (x : List ℕ) (f : Form) (s t : State) (p : Place) → define_step n x (form_shape n f) s ≡ Ok t → Together s p → Stepped n (define x f) p t
 define_ok n x f s t p e h =
-    let e1 = bind_ok (define_kind n x (form_shape n f) s.declared) (λ k. defined n x (with_value x k s.declared) (value_of (form_shape n f) s.values) s) t e in
+    let e1 = bind-ok (define_kind n x (form_shape n f) s.declared) (λ k. defined n x (with_value x k s.declared) (value_of (form_shape n f) s.values) s) t e in
     let k : Kind = e1.0 in
-    let e2 = bind_ok (Rattle.c2po_types.specs.Expressions.kind_of (form_shape n f) (Rattle.c2po_types.specs.Scopes.outside s.declared)) (λ j. new n x s.declared.names (Ok j)) k e1.1 in
+    let e2 = bind-ok (Rattle.c2po_types.specs.Expressions.kind_of (form_shape n f) (Rattle.c2po_types.specs.Scopes.outside s.declared)) (λ j. new n x s.declared.names (Ok j)) k e1.1 in
     let free = guard_off (is_named x s.declared.names) _ (Ok e2.0) k e2.2 in
     let v = value_of (form_shape n f) s.values in
     let after : State = record { declared = with_value x k s.declared; labels = s.labels; values = declare x (value v) s.values; total = s.total } in
-    let done : Ok after ≡ Ok t = guard_none n (value_fault v) (Ok after) t (guard_on (nat_le (weight v) MAX_WEIGHT) _ (when_ranged n (value_fault v) (Ok after)) t e1.2) in
+    let done : Ok after ≡ Ok t = when_ranged-ok n (value_fault v) (Ok after) t (when-ok (nat_le (weight v) MAX_WEIGHT) _ (when_ranged n (value_fault v) (Ok after)) t e1.2) in
     let is : after ≡ t = cc in
     record {
       new = ap (λ (env : Env). env x) (sym h.values) ∙ h.agrees x free.0;
@@ -108,7 +94,7 @@ define_ok n x f s t p e h =
 out_ok : (n : ℕ) (labels : Labels) (w : ℕ) (why : Option NoRange) (mixed : Bool) (s t : State) → with_out n labels w why mixed s ≡ Ok t → (t.values ≡ s.values) × (t.declared ≡ s.declared)
 out_ok n labels w why mixed s t e =
     let after : State = record { declared = s.declared; labels = labels; values = s.values; total = s.total + w } in
-    let e1 : one_tense n mixed (Ok after) ≡ Ok t = guard_none n why (one_tense n mixed (Ok after)) t (guard_on (nat_le (s.total + w) MAX_WEIGHT) _ (when_ranged n why (one_tense n mixed (Ok after))) t e) in
+    let e1 : one_tense n mixed (Ok after) ≡ Ok t = when_ranged-ok n why (one_tense n mixed (Ok after)) t (when-ok (nat_le (s.total + w) MAX_WEIGHT) _ (when_ranged n why (one_tense n mixed (Ok after))) t e) in
     let e2 = guard_off mixed _ (Ok after) t e1 in
     let is : after ≡ t = cc in
     (ap (λ (u : State). u.values) (sym is), ap (λ (u : State). u.declared) (sym is))
@@ -122,8 +108,8 @@ out_together s t p q same v w h = record {
 
 formula_ok : (n : ℕ) (engine : Engine) (label : Option (List ℕ)) (x : Reference) (s t : State) (p : Place) → formula_step n engine label (reference_shape n x) s ≡ Ok t → Together s p → Stepped n (formula engine label x) p t
 formula_ok n engine label x s t p e h =
-    let e1 = bind_ok (with_label n label s.labels) _ t e in
-    let e2 = bind_ok (formula_kind n (reference_shape n x) s.declared) _ t e1.2 in
+    let e1 = bind-ok (with_label n label s.labels) _ t e in
+    let e2 = bind-ok (formula_kind n (reference_shape n x) s.declared) _ t e1.2 in
     let v = value_of (reference_shape n x) s.values in
     let same = out_ok n e1.0 (weight v) (formula_fault (values.formula_of v)) (is_mixed engine (values.formula_of v)) s t e2.2 in
     let more : p.signals ≡ p.signals + 0 = omega arith in
@@ -131,44 +117,36 @@ formula_ok n engine label x s t p e h =
 
 contract_ok : (n : ℕ) (engine : Engine) (label : Option (List ℕ)) (x y : Reference) (s t : State) (p : Place) → contract_step n engine label (reference_shape n x) (reference_shape n y) s ≡ Ok t → Together s p → Stepped n (contract engine label x y) p t
 contract_ok n engine label x y s t p e h =
-    let e1 = bind_ok (with_label n label s.labels) _ t e in
-    let e2 = bind_ok (contract_kind n (reference_shape n x) (reference_shape n y) s.declared) _ t e1.2 in
+    let e1 = bind-ok (with_label n label s.labels) _ t e in
+    let e2 = bind-ok (contract_kind n (reference_shape n x) (reference_shape n y) s.declared) _ t e1.2 in
     let v = value_of (reference_shape n x) s.values in
     let w = value_of (reference_shape n y) s.values in
     let same = out_ok n e1.0 (weight v + weight w) (or_later (formula_fault (values.formula_of v)) (formula_fault (values.formula_of w))) _ s t e2.2 in
     let more : p.signals ≡ p.signals + 0 = omega arith in
     record { new = tt; together = out_together s t p (place_after (line_body n (contract engine label x y)) p) same refl more h }
 
--- the declarations with a signal
-abbrev pub signal_added : Bool → List ℕ → Declarations → Declarations
-signal_added b x d = record {
-  names = d.names ++ (x, Value (signal_kind b)) ∷ [];
-  structs = d.structs;
-  signals = d.signals ++ record { name = x; truth = b } ∷ [];
-}
-
 pub with_is : (n : ℕ) (x : List ℕ) (truth : Bool) (d : Declarations) → with_input n (x ∷ []) (type_named (kind_name truth)) d ≡ (with_signal n truth x d >>= λ c. Ok c)
 with_is n x true d = refl
 with_is n x false d = refl
 
-pub signal_ok : (n : ℕ) (x : List ℕ) (truth : Bool) (d c : Declarations) → with_input n (x ∷ []) (type_named (kind_name truth)) d ≡ Ok c → (is_named x d.names ≡ false) × (signal_added truth x d ≡ c)
+pub signal_ok : (n : ℕ) (x : List ℕ) (truth : Bool) (d c : Declarations) → with_input n (x ∷ []) (type_named (kind_name truth)) d ≡ Ok c → (is_named x d.names ≡ false) × (signal_last truth x d ≡ c)
 signal_ok n x truth d c e =
-    let e1 = bind_ok (with_signal n truth x d) (λ k. Ok k) c (sym (with_is n x truth d) ∙ e) in
-    let free = guard_off (is_named x d.names) _ (if nat_le MAX_SIGNALS (length d.signals) then Err (Rattle.c2po_types.specs.declared.fault.TypeFault.TheVariants.Signals n) else Ok (signal_added truth x d)) e1.0 e1.1 in
-    let few = guard_off (nat_le MAX_SIGNALS (length d.signals)) _ (Ok (signal_added truth x d)) e1.0 free.1 in
+    let e1 = bind-ok (with_signal n truth x d) (λ k. Ok k) c (sym (with_is n x truth d) ∙ e) in
+    let free = guard_off (is_named x d.names) _ (if nat_le MAX_SIGNALS (length d.signals) then Err (Rattle.c2po_types.specs.declared.fault.TypeFault.TheVariants.Signals n) else Ok (signal_last truth x d)) e1.0 e1.1 in
+    let few = guard_off (nat_le MAX_SIGNALS (length d.signals)) _ (Ok (signal_last truth x d)) e1.0 free.1 in
     (free.0, cc)
 
 input_ok : (n : ℕ) (x : List ℕ) (truth : Bool) (s t : State) (p : Place) → input_step n (x ∷ []) (type_named (kind_name truth)) s ≡ Ok t → Together s p → Stepped n (input x truth) p t
 input_ok n x truth s t p e h =
     let count : ℕ = length s.declared.signals in
-    let e1 = bind_ok (with_input n (x ∷ []) (type_named (kind_name truth)) s.declared) (λ d. Ok (record { declared = d; labels = s.labels; values = with_signals count (drop count d.signals) s.values; total = s.total })) t e in
+    let e1 = bind-ok (with_input n (x ∷ []) (type_named (kind_name truth)) s.declared) (λ d. Ok (record { declared = d; labels = s.labels; values = with_signals count (drop count d.signals) s.values; total = s.total })) t e in
     let added = signal_ok n x truth s.declared e1.0 e1.1 in
-    let d : Declarations = signal_added truth x s.declared in
+    let d : Declarations = signal_last truth x s.declared in
     let q : Place = place_after (line_body n (input x truth)) p in
     let after : State = record { declared = d; labels = s.labels; values = with_signals count (drop count d.signals) s.values; total = s.total } in
     let first : after ≡ record { declared = e1.0; labels = s.labels; values = with_signals count (drop count e1.0.signals) s.values; total = s.total } =
     ap (λ (c : Declarations). let u : State = record { declared = c; labels = s.labels; values = with_signals count (drop count c.signals) s.values; total = s.total } in u) added.1 in
-    let second : record { declared = e1.0; labels = s.labels; values = with_signals count (drop count e1.0.signals) s.values; total = s.total } ≡ t = ok_same _ t e1.2 in
+    let second : record { declared = e1.0; labels = s.labels; values = with_signals count (drop count e1.0.signals) s.values; total = s.total } ≡ t = ok-inj _ t e1.2 in
     let only : drop count d.signals ≡ record { name = x; truth = truth } ∷ [] = drop-append_seam s.declared.signals (record { name = x; truth = truth } ∷ []) in
     let declares : after.values ≡ declare x (value (signal_value truth count)) s.values = ap (λ (ss : List Signal). with_signals count ss s.values) only in
     let there : declare x (value (signal_value truth count)) s.values ≡ q.values =
@@ -194,7 +172,7 @@ lines_ok : (ls : List Line) (n : ℕ) (s t : State) (p : Place) → in_turn item
 unfolding line_items AreNew
 lines_ok [] n s t p e h = tt
 lines_ok (l ∷ ls) n s t p e h =
-    let e1 = bind_ok (item_step (line_item n l) s) (in_turn item_step (line_items (n + 1) ls)) t e in
+    let e1 = bind-ok (item_step (line_item n l) s) (in_turn item_step (line_items (n + 1) ls)) t e in
     let step = line_ok n l s e1.0 p e1.1 h in
     (step.new, lines_ok ls (n + 1) e1.0 t (place_after (line_body n l) p) e1.2 step.together)
 

@@ -30,9 +30,8 @@ small_enough n h = grind (arith, nat_tests)
 
 good_word : (long : Bool) (k : Option Keyword) (bytes : List ℕ) (fault : LexFault) → nat_lt 64 (length bytes) ≡ long → keyword_of bytes ≡ k → (begins_word (slice_index bytes 0) ≡ true) × AllPass is_in_word bytes
     → GoodReading (result_map Some (if long then Err fault else Ok (reserved_or_name bytes k)))
-good_word true k bytes fault long free word = tt
-good_word false (Some k) bytes fault long free word = tt
 good_word false None bytes fault long free word = record { begins = word.0; word = word.1; short = short_enough (length bytes) long; free = free }
+good_word _ _ bytes fault long free word = tt
 
 good_number : (large : Bool) (value : ℕ) (fault : LexFault) → nat_lt 9223372036854775807 value ≡ large → GoodReading (result_map Some (if large then Err fault else Ok (what.Number (pos value))))
 good_number true value fault e = tt
@@ -47,11 +46,10 @@ abbrev GoodTokens : Result (List Token) LexFault → Type 0
 GoodTokens r = IfOk r (All (λ t. IsToken t.what))
 
 before_good : (token : What → Token) → ((w : What) → (token w).what ≡ w) → (r : Result (Option What) LexFault) (rest : Result (List Token) LexFault) → GoodReading r → GoodTokens rest → GoodTokens (comes_first (result_map (option_map token) r) rest)
-before_good token same (Err f) rest plain others = tt
 before_good token same (Ok None) rest plain others = others
-before_good token same (Ok (Some w)) (Err f) plain others = tt
 before_good token same (Ok (Some w)) (Ok ts) plain others =
     All-cons (λ t. IsToken t.what) (token w) ts (subst IsToken (sym (same w)) plain) others
+before_good token same _ _ plain others = tt
 
 pieces_good : (text : List ℕ) (k s : ℕ) (xs : List ℕ) → GoodTokens (all_of (map (read_piece text) (pieces_from k s xs)))
 unfolding pieces_from all_of

@@ -80,8 +80,6 @@ name_no_number line x ts (Some us) = tt
 sign_no_number : (line : ℕ) (s : Sign) (ts : List Token) → NotNumber (sign_start line s ts)
 sign_no_number line sign.Bang ts = tt
 sign_no_number line sign.Minus ts = tt
-sign_no_number line sign.LeftRound ts = tt
-sign_no_number line sign.LeftCurly ts = tt
 sign_no_number line _ ts = tt
 
 same_number : (l line : ℕ) (m n : ℤ) (ts rest : List Token) → ◌≡◌ {A = Option (Start × List Token)} (Some (Leaf l (Number m), ts)) (Some (Leaf line (Number n), rest)) → m ≡ n
@@ -102,8 +100,7 @@ number_at_start (t ∷ ts) line n rest e words = number_in t.what t.line line n 
 
 leaf-numbers : (line : ℕ) (a : Atom) (us : List Token) → IsStart us (Leaf line a) → GoodWords us → HasNumbers (leaf line a)
 leaf-numbers line (Number n) us is words = number_at_start us line n [] (ap start_at (sym (append-nil us)) ∙ is.reads [] (λ e. refl)) words
-leaf-numbers line (Truth b) us is words = tt
-leaf-numbers line (Ref x) us is words = tt
+leaf-numbers line _ us is words = tt
 
 joined-numbers : (line : ℕ) (op : Infix) (e f : Shape) → HasNumbers e → HasNumbers f → HasNumbers (joined line op e f)
 joined-numbers line (Logic op) e f he hf = (he, hf)
@@ -111,13 +108,11 @@ joined-numbers line _ e f he hf = (he, hf)
 
 prefixed-numbers : (p : Prefix) (e : Shape) → HasNumbers e → HasNumbers (prefixed p e)
 prefixed-numbers (Not line) e h = h
-prefixed-numbers (Minus line) e h = h
-prefixed-numbers (Window line op a b) e h = h
+prefixed-numbers _ e h = h
 
 quantified-numbers : (line : ℕ) (q : Quantifier) (x : List ℕ) (s : Shape) (n : ℕ) (e : Shape) → HasNumbers s → HasNumbers e → HasNumbers (quantified line q x s n e)
 quantified-numbers line Each x s n e hs he = (hs, he)
-quantified-numbers line Exists x s n e hs he = (hs, he)
-quantified-numbers line (Count op) x s n e hs he = (hs, he)
+quantified-numbers line _ x s n e hs he = (hs, he)
 
 enclosed-numbers : (b : Bracket) (es : List Shape) → HaveNumbers (of_list es) → HasNumbers (enclosed b es)
 enclosed-numbers (Curly line) es hs = hs

@@ -86,9 +86,8 @@ signals_named [] h = tt
 signals_named (i ∷ items) h = more_named (body_signals i.body) (signals_of items) (body_named i.body h.0) (signals_named items h.1)
 
 stored_named : (signals : List Signal) (columns : List ℕ) → AreNamedSignals signals → AreNamed (stored_signals signals columns)
-stored_named [] columns h = tt
-stored_named (s ∷ signals) [] h = tt
 stored_named (s ∷ signals) (c ∷ columns) h = (h.0, stored_named signals columns h.1)
+stored_named _ _ h = tt
 
 -- ---- names of outputs
 

@@ -42,8 +42,7 @@ quiet_append (newline ∷ ms) ns h g = absurd h
 
 reference_quiet : (x : Reference) → IsQuietToken (reference_token x)
 reference_quiet always = (refl, refl, refl)
-reference_quiet (named x) = (refl, refl, refl)
-reference_quiet (number n) = (refl, refl, refl)
+reference_quiet _ = (refl, refl, refl)
 
 arith_quiet : (op : arith_op.ArithOp) → IsQuietToken (what.Sign (arith_sign op))
 arith_quiet arith_op.TheVariants.Add = (refl, refl, refl)
@@ -59,20 +58,15 @@ logic_quiet _ = (refl, refl, refl)
 
 between_quiet : (op : between_op.BetweenOp) → IsQuietToken (what.Reserved (between_word op))
 between_quiet between_op.TheVariants.U = (refl, refl, refl)
-between_quiet between_op.TheVariants.R = (refl, refl, refl)
-between_quiet between_op.TheVariants.S = (refl, refl, refl)
-
-plain_token : IsQuietToken (what.Sign sign.Colon)
-plain_token = (refl, refl, refl)
+between_quiet _ = (refl, refl, refl)
 
 form_quiet : (f : Form) → AreQuiet (form_marks f)
-form_quiet (minus x) = ((refl, refl, refl), (reference_quiet x, tt))
 form_quiet (computes op x y) = (reference_quiet x, (arith_quiet op, (reference_quiet y, tt)))
 form_quiet (compare op x y) = (reference_quiet x, (compare_quiet op, (reference_quiet y, tt)))
-form_quiet (negation x) = ((refl, refl, refl), (reference_quiet x, tt))
 form_quiet (logic op x y) = (reference_quiet x, (logic_quiet op, (reference_quiet y, tt)))
 form_quiet (between op window x y) =
     (reference_quiet x, (between_quiet op, ((refl, refl, refl), ((refl, refl, refl), ((refl, refl, refl), ((refl, refl, refl), ((refl, refl, refl), (reference_quiet y, tt))))))))
+form_quiet _ = ((refl, refl, refl), (reference_quiet _, tt))
 
 label_quiet : (label : Option (List ℕ)) → AreQuiet (label_marks label)
 label_quiet None = tt

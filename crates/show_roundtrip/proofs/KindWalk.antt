@@ -19,6 +19,7 @@ use Rattle.obs_verify.specs.Layout.{HasLayout}
 use Rattle.obs_show.specs.Lines.{Reference, named, Form, Line, define}
 use Rattle.obs_show.specs.Naming.{operations, defined_name}
 use Rattle.obs_show.proofs.FreeLaws.{defined_differ}
+use Rattle.std.proofs.lemmas.Bool.{ltb-true, ltb-false}
 use Rattle.show_roundtrip.proofs.Walk.{get_seam, lines_from, put, put_is}
 use Rattle.show_roundtrip.proofs.Passing.{KindsPass}
 use Rattle.show_roundtrip.proofs.FormKinds.{HasLater, push_later, pushed_entry, pushed_named, HasKindIn, kind_later, FormHasKind, define_passes}
@@ -49,19 +50,13 @@ abbrev pub HasRightKind : Declarations → Option Form → Bool → List ℕ →
 HasRightKind d None counts name x k = (counts ≡ false) × HasKindIn d.names x k
 HasRightKind d (Some f) counts name x k = (counts ≡ true) × (x ≡ named name) × FormHasKind d f k
 
-pub under : (a b : ℕ) → nat_lt a b ≡ true → a < b
-under a b h = grind (arith, nat_tests)
-
-not_under : (a b : ℕ) → nat_lt a b ≡ false → b ≤ a
-not_under a b h = grind (arith, nat_tests)
-
 kinds_push : (called : ℕ → Reference) (gives : ℕ → Kind) (i : ℕ) (names : Table Meaning) → KnowsKinds called gives i names → HasKindIn names (called i) (gives i) → KnowsKinds called gives (i + 1) names
 kinds_push called gives i names h k j below = go (nat_lt j i) refl
   where
     go : (b : Bool) → nat_lt j i ≡ b → HasKindIn names (called j) (gives j)
-    go true e = h j (under j i e)
+    go true e = h j (ltb-true j i e)
     go false e =
-        let past : i ≤ j = not_under j i e in
+        let past : i ≤ j = ltb-false j i e in
         let same : i ≡ j = omega arith in
         subst (λ (m : ℕ). HasKindIn names (called m) (gives m)) same k
 

@@ -35,9 +35,9 @@ use Rattle.c2po_compile.specs.ImageFiles.{image_in}
 use Rattle.c2po_compile.specs.Simplified.{smaller_outputs, simple_image_in}
 use Rattle.c2po_compile.proofs.ImageLaws.{image_of}
 use Rattle.c2po_compile.proofs.TellingLaws.{no_fault, tensed}
+use Rattle.show_roundtrip.proofs.Images.{smaller_tensed}
 use Rattle.show_roundtrip.proofs.Passing.{IsLight}
 use Rattle.c2po_compile.proofs.Tenses.{tensed_over}
-use Rattle.show_roundtrip.proofs.Images.{smaller_tensed}
 
 -- ---- weights
 
@@ -72,12 +72,7 @@ term_light most (atoms.remainder a b) h = (h, term_light most a (omega (arith, h
 
 operands_light : (most : ℕ) (a : Atom) → atom_weight a ≤ most → InOperands (IsLightExpression most) a
 operands_light most (atoms.is_true c) h = tt
-operands_light most (atoms.equal a b) h = (term_light most a (omega (arith, h)), term_light most b (omega (arith, h)))
-operands_light most (atoms.less a b) h = (term_light most a (omega (arith, h)), term_light most b (omega (arith, h)))
-operands_light most (atoms.at_most a b) h = (term_light most a (omega (arith, h)), term_light most b (omega (arith, h)))
-operands_light most (atoms.different a b) h = (term_light most a (omega (arith, h)), term_light most b (omega (arith, h)))
-operands_light most (atoms.greater a b) h = (term_light most a (omega (arith, h)), term_light most b (omega (arith, h)))
-operands_light most (atoms.at_least a b) h = (term_light most a (omega (arith, h)), term_light most b (omega (arith, h)))
+operands_light most _ h = (term_light most _ (omega (arith, h)), term_light most _ (omega (arith, h)))
 
 expressions_light : (most : ℕ) (p : Core) → IsLightCore most p → Deep (AtCore (IsLightExpression most)) p
 unfolding formula_weight plain
@@ -159,9 +154,8 @@ simple_light source columns program h is few =
 -- ---- signals
 
 no_more_stored : (signals : List Signal) (columns : List ℕ) → length (stored_signals signals columns) ≤ length signals
-no_more_stored [] columns = omega arith
-no_more_stored (s ∷ signals) [] = omega arith
 no_more_stored (s ∷ signals) (c ∷ columns) = omega (arith, no_more_stored signals columns)
+no_more_stored _ _ = omega arith
 
 few_stored : (source : List ℕ) (columns : Columns) → first_refusal source ≡ None → length (stored_signals (signals_in source) columns.of_signal) ≤ MAX_SIGNALS
 few_stored source columns h =

@@ -3,7 +3,7 @@
 use Rattle.std.proofs.Common.{◌≡◌, ◌∙◌, ℕ, ◌+◌, ◌<◌, ◌≤◌, zero, suc, Bool, false, List, [], ◌∷◌, ◌++◌, length, map, Option, Some, None, Ok, Err, refl, ap, ap₂, sym, subst, arith, pos, nat_lt}
 use Rattle.std.specs.Prelude.{slice_get, slice_index_or, ◌||◌}
 use Rattle.std.specs.List.{enumerate_from, sum_by}
-use Rattle.std.proofs.lemmas.Bool.{and_parts}
+use Rattle.std.proofs.lemmas.Bool.{and_parts, ltb-true}
 use Rattle.std.proofs.lemmas.List.Sums.{sum_by-cons}
 use Rattle.std.proofs.lemmas.Option.{slice_get_within, get_or_from_slice_get}
 use Rattle.mltl_base.specs.declared.interval.Engine.{Engine}
@@ -39,7 +39,7 @@ use Rattle.show_roundtrip.proofs.Passing.{reference_value, added, ValuePasses, V
 use Rattle.show_roundtrip.proofs.Values.{MeansFormula, formula_by, formula_weighs}
 use Rattle.show_roundtrip.proofs.Definable.{expression_fault, AreDefinable, fault_over, past_over, future_over}
 use Rattle.show_roundtrip.proofs.Walk.{get_seam, columns_in, expressions_kept}
-use Rattle.show_roundtrip.proofs.Whole.{EnginesKnown, Within, HaveReports, CanBeSaid, under, after_output, expressions_count, formulas_count, past_count, engines_known, lines_reach}
+use Rattle.show_roundtrip.proofs.Whole.{EnginesKnown, Within, HaveReports, CanBeSaid, after_output, expressions_count, formulas_count, past_count, engines_known, lines_reach}
 use Rattle.show_roundtrip.proofs.Formed.{well_formed_said}
 
 no_later : (a b : Option NoRange) → a ≡ None → b ≡ None → or_later a b ≡ None
@@ -141,16 +141,14 @@ unfolding plain formula_fault has_past
 future_ranged loaded cs ft.TheVariants.True l h = (refl, refl)
 future_ranged loaded cs (ft.TheVariants.Load a) l h = (l a, refl)
 future_ranged loaded cs (ft.TheVariants.Not g) l h = h g
-future_ranged loaded cs (ft.TheVariants.And x y) l h = (no_later _ _ (h x).0 (h y).0, neither_holds _ _ (h x).1 (h y).1)
-future_ranged loaded cs (ft.TheVariants.Until x y window) l h = (no_later _ _ (h x).0 (h y).0, neither_holds _ _ (h x).1 (h y).1)
+future_ranged loaded cs _ l h = (no_later _ _ (h _).0 (h _).0, neither_holds _ _ (h _).1 (h _).1)
 
 past_ranged : (loaded : List Atom) (cs : List Core) (op : pt.PtOp) → AreRanged loaded → ((j : ℕ) → IsPastRanged (core_at cs j)) → IsPastRanged (past_formula_of loaded cs op)
 unfolding plain formula_fault has_future
 past_ranged loaded cs pt.TheVariants.True l h = (refl, refl)
 past_ranged loaded cs (pt.TheVariants.Load a) l h = (l a, refl)
 past_ranged loaded cs (pt.TheVariants.Not g) l h = h g
-past_ranged loaded cs (pt.TheVariants.And x y) l h = (no_later _ _ (h x).0 (h y).0, neither_holds _ _ (h x).1 (h y).1)
-past_ranged loaded cs (pt.TheVariants.Since x y window) l h = (no_later _ _ (h x).0 (h y).0, neither_holds _ _ (h x).1 (h y).1)
+past_ranged loaded cs _ l h = (no_later _ _ (h _).0 (h _).0, neither_holds _ _ (h _).1 (h _).1)
 
 futures_ranged : (loaded : List Atom) (ops : List ft.FtOp) (cs : List Core) → AreRanged loaded → ((j : ℕ) → IsFutureRanged (core_at cs j)) → (j : ℕ) → IsFutureRanged (core_at (formulas_after loaded cs ops) j)
 unfolding formulas_after
@@ -236,16 +234,16 @@ module _ (program : Program) (n total : ℕ) (p : Place) (known : EnginesKnown p
 
   output_passes : (k : ℕ) (o : out.Out) → Within program o → total + output_weight (output_of program o) ≤ MAX_WEIGHT
       → ValuePasses n (output_line program k o) p total × (added n (output_line program k o) p ≡ output_weight (output_of program o))
-  output_passes k (out.TheVariants.Formula Ft i name) w light = formula_passes Ft (shown_label k name) (ft_reference program i) (plain (formula_at program Ft i)) (ft_reported i (under i (length program.ft) w)) light
-  output_passes k (out.TheVariants.Formula Pt i name) w light = formula_passes Pt (shown_label k name) (pt_reference program i) (plain (formula_at program Pt i)) (pt_reported i (under i (length program.pt) w)) light
+  output_passes k (out.TheVariants.Formula Ft i name) w light = formula_passes Ft (shown_label k name) (ft_reference program i) (plain (formula_at program Ft i)) (ft_reported i (ltb-true i (length program.ft) w)) light
+  output_passes k (out.TheVariants.Formula Pt i name) w light = formula_passes Pt (shown_label k name) (pt_reference program i) (plain (formula_at program Pt i)) (pt_reported i (ltb-true i (length program.pt) w)) light
   output_passes k (out.TheVariants.Contract Ft i j name) w light =
       let parts = and_parts (nat_lt i (length program.ft)) (nat_lt j (length program.ft)) w in
       contract_passes Ft (shown_label k name) (ft_reference program i) (ft_reference program j) (plain (formula_at program Ft i)) (plain (formula_at program Ft j))
-      (ft_reported i (under i (length program.ft) parts.0)) (ft_reported j (under j (length program.ft) parts.1)) light
+      (ft_reported i (ltb-true i (length program.ft) parts.0)) (ft_reported j (ltb-true j (length program.ft) parts.1)) light
   output_passes k (out.TheVariants.Contract Pt i j name) w light =
       let parts = and_parts (nat_lt i (length program.pt)) (nat_lt j (length program.pt)) w in
       contract_passes Pt (shown_label k name) (pt_reference program i) (pt_reference program j) (plain (formula_at program Pt i)) (plain (formula_at program Pt j))
-      (pt_reported i (under i (length program.pt) parts.0)) (pt_reported j (under j (length program.pt) parts.1)) light
+      (pt_reported i (ltb-true i (length program.pt) parts.0)) (pt_reported j (ltb-true j (length program.pt) parts.1)) light
 
 outputs_pass : (program : Program) (outs : List out.Out) (n k total : ℕ) (p : Place) → EnginesKnown program p.values → EnginesRanged program → HaveReports program outs
     → total + sum_by output_weight (map (output_of program) outs) ≤ MAX_WEIGHT

@@ -20,9 +20,9 @@ use Rattle.c2po_lexer.specs.declared.token.Sign.TheVariants as sign
 use Rattle.c2po_lexer.specs.declared.token.What.TheVariants as what
 use Rattle.obs_show.specs.Lines.{Reference, always, named, number, Form, minus, arith as computes, compare, negation, logic, between, Line, input, define, formula, contract}
 use Rattle.obs_show.specs.Text.{reference_text, arith_text, compare_text, logic_text, between_text, interval_text, spaced, form_text, kind_text, section_text, label_text, shown_line, lines_text}
+use Rattle.show_roundtrip.proofs.Reading.{decimals}
 use Rattle.show_roundtrip.specs.Written.{Mark, token, space, newline, IsNumeral, Ends, token_text, mark_text, ends_before, MarksAreReadable, marks_text}
 use Rattle.show_roundtrip.specs.Said.{reference_token, arith_sign, compare_sign, logic_sign, between_word, interval_marks, spaced_marks, form_marks, kind_word, section_word, label_marks, body_marks, line_marks, lines_marks, HasToken, HasTokens, HasName, HasWords, HaveWords}
-use Rattle.show_roundtrip.proofs.Reading.{decimals}
 
 written_append : (ms ns : List Mark) → marks_text (ms ++ ns) ≡ marks_text ms ++ marks_text ns
 written_append [] ns = refl
@@ -40,10 +40,8 @@ join7 a b c d e f g = append_assoc ((((a ++ b) ++ c) ++ d) ++ e) f g ∙ append_
 
 -- how references and operators are written
 reference_is : (x : Reference) → HasToken x → token_text (reference_token x) ≡ reference_text x
-reference_is always h = refl
-reference_is (named x) h = refl
-reference_is (number (pos n)) h = refl
 reference_is (number (negsuc n)) h = absurd h
+reference_is _ h = refl
 
 arith_is : (op : arith_op.ArithOp) → sign_text (arith_sign op) ≡ arith_text op
 arith_is arith_op.TheVariants.Add = refl
@@ -59,8 +57,7 @@ logic_is _ = refl
 
 between_is : (op : between_op.BetweenOp) → keyword_text (between_word op) ≡ between_text op
 between_is between_op.TheVariants.U = refl
-between_is between_op.TheVariants.R = refl
-between_is between_op.TheVariants.S = refl
+between_is _ = refl
 
 spaced_written : (x y : Reference) (ops : List Mark) (operator : List ℕ) → HasToken x → HasToken y → marks_text ops ≡ operator
     → marks_text (spaced_marks x ops y) ≡ spaced x operator y
@@ -131,13 +128,11 @@ line_written (contract engine label x y) h =
 -- what a token is followed by
 reference_space : (x : Reference) (rest : List ℕ) → Ends (reference_token x) (32 ∷ rest)
 reference_space always rest = refl
-reference_space (named x) rest = refl
-reference_space (number n) rest = refl
+reference_space _ rest = refl
 
 reference_stop : (x : Reference) (rest : List ℕ) → Ends (reference_token x) (59 ∷ rest)
 reference_stop always rest = refl
-reference_stop (named x) rest = refl
-reference_stop (number n) rest = refl
+reference_stop _ rest = refl
 
 arith_space : (op : arith_op.ArithOp) (rest : List ℕ) → Ends (what.Sign (arith_sign op)) (32 ∷ rest)
 arith_space arith_op.TheVariants.Add rest = refl

@@ -77,8 +77,7 @@ window_natural _ a b p h = h
 
 between_natural : (op : BetweenOp) (a b : ℕ) (p q : Formula) → Natural p → Natural q → Natural (ranged op (interval a b) p q)
 between_natural U a b p q g h = (g, h)
-between_natural R a b p q g h = (g, h)
-between_natural S a b p q g h = (g, h)
+between_natural _ a b p q g h = (g, h)
 
 natural_kept : Keeps IsNumeral TermNatural Natural
 natural_kept = record {
@@ -118,17 +117,13 @@ after_natural : (body : BodyShape) (p : Place) → GoodBody body → EnvNatural 
 after_natural (item.structure x fs) p k h = declare_has TermNatural Natural x (fields (map (λ f. f.name) fs)) p.values tt h
 after_natural (item.input xs t) p k h = signals_natural (body_signals (item.input xs t)) p.signals p.values h
 after_natural (item.define x e) p k h = declare_has TermNatural Natural x (value (value_of e p.values)) p.values (value_natural e p.values k.1 h) h
-after_natural (item.formula engine label e) p k h = h
-after_natural (item.contract engine label e f) p k h = h
+after_natural _ p k h = h
 
 -- each formula of the output is natural
 abbrev pub IsNaturalOutput : Asked → Type 0
 IsNaturalOutput asked = All Natural (formulas_of asked.output)
 
 asked_natural : (body : BodyShape) (p : Place) → GoodBody body → EnvNatural p.values → All IsNaturalOutput (asked_at body p)
-asked_natural (item.structure x fs) p k h = All-nil IsNaturalOutput
-asked_natural (item.input xs t) p k h = All-nil IsNaturalOutput
-asked_natural (item.define x e) p k h = All-nil IsNaturalOutput
 asked_natural (item.formula engine label e) p k h =
     let one = formula_natural e p.values k.1 h in
     All-cons IsNaturalOutput _ [] (All-cons Natural _ [] one (All-nil Natural)) (All-nil IsNaturalOutput)
@@ -136,6 +131,7 @@ asked_natural (item.contract engine label e f) p k h =
     let left = formula_natural e p.values k.1.0 h in
     let right = formula_natural f p.values k.1.1 h in
     All-cons IsNaturalOutput _ [] (All-cons Natural (formula_of (value_of e p.values)) (formula_of (value_of f p.values) ∷ []) left (All-cons Natural (formula_of (value_of f p.values)) [] right (All-nil Natural))) (All-nil IsNaturalOutput)
+asked_natural _ p k h = All-nil IsNaturalOutput
 
 items_natural : (items : List ItemShape) (p : Place) → GoodItems items → EnvNatural p.values → All IsNaturalOutput (asked_from items p)
 unfolding asked_from

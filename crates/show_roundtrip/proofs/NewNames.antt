@@ -12,10 +12,12 @@ use Rattle.c2po_types.specs.Scopes.{outside}
 use Rattle.c2po_unfold.specs.Environment.{Env, value, declare, signal_value, value_of}
 use Rattle.c2po_types.specs.Outputs.{Place, before, place_after}
 use Rattle.obs_show.specs.Lines.{Form, Line, input, define, formula, contract}
+use Rattle.c2po_types.proofs.SignalLaws.{signal_last}
+use Rattle.c2po_types.proofs.Parts.{bind-ok}
 use Rattle.show_roundtrip.specs.Said.{form_shape, line_body}
 use Rattle.show_roundtrip.specs.Unfolded.{IsNew, AreNew}
 use Rattle.show_roundtrip.proofs.Whole.{input_declares}
-use Rattle.show_roundtrip.proofs.Fresh.{bind_ok, guard_off, Agrees, agrees_push, signal_added, signal_ok}
+use Rattle.show_roundtrip.proofs.Fresh.{guard_off, Agrees, agrees_push, signal_ok}
 use Rattle.show_roundtrip.proofs.Passing.{KindPasses, KindsPass}
 
 -- declarations and a place that know the same names and count the same signals
@@ -33,19 +35,19 @@ input_goes n x truth d later p h a =
     let added = signal_ok n x truth d later h in
     let q : Place = place_after (line_body n (input x truth)) p in
     let there : declare x (value (signal_value truth p.signals)) p.values ≡ q.values = sym (input_declares n x truth p) in
-    let counted : length (signal_added truth x d).signals ≡ q.signals = omega (arith, length-append d.signals (record { name = x; truth = truth } ∷ []), a.signals) in
+    let counted : length (signal_last truth x d).signals ≡ q.signals = omega (arith, length-append d.signals (record { name = x; truth = truth } ∷ []), a.signals) in
     record {
       new = a.agrees x added.0;
       along = subst (λ (c : Declarations). Alongside c q) added.1 (record {
         signals = counted;
-        agrees = subst (λ (env : Env). Agrees (signal_added truth x d).names env) there (agrees_push d.names p.values x (Value (signal_kind truth)) (value (signal_value truth p.signals)) a.agrees);
+        agrees = subst (λ (env : Env). Agrees (signal_last truth x d).names env) there (agrees_push d.names p.values x (Value (signal_kind truth)) (value (signal_value truth p.signals)) a.agrees);
       });
     }
 
 define_goes : (n : ℕ) (x : List ℕ) (f : Form) (d later : Declarations) (p : Place) → KindPasses n (define x f) d later → Alongside d p → Goes n (define x f) p later
 define_goes n x f d later p h a =
     let k : Kind = h.0 in
-    let found = bind_ok (kind_of (form_shape n f) (outside d)) (λ j. new n x d.names (Ok j)) k h.1 in
+    let found = bind-ok (kind_of (form_shape n f) (outside d)) (λ j. new n x d.names (Ok j)) k h.1 in
     let free = guard_off (is_named x d.names) _ (Ok found.0) k found.2 in
     let same : p.signals ≡ p.signals + 0 = omega arith in
     record {
@@ -65,8 +67,7 @@ stays_along d later p is a =
 line_goes : (n : ℕ) (l : Line) (d later : Declarations) (p : Place) → KindPasses n l d later → Alongside d p → Goes n l p later
 line_goes n (input x truth) d later p h a = input_goes n x truth d later p h a
 line_goes n (define x f) d later p h a = define_goes n x f d later p h a
-line_goes n (formula engine label x) d later p h a = record { new = tt; along = stays_along d later p h.2 a }
-line_goes n (contract engine label x y) d later p h a = record { new = tt; along = stays_along d later p h.2 a }
+line_goes n _ d later p h a = record { new = tt; along = stays_along d later p h.2 a }
 
 lines_new : (ls : List Line) (n : ℕ) (d : Declarations) (p : Place) → KindsPass n ls d → Alongside d p → AreNew n ls p
 unfolding KindsPass AreNew

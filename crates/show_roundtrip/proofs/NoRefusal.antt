@@ -22,16 +22,14 @@ use Rattle.c2po_unfold.specs.Values.{Value, formula_of}
 use Rattle.c2po_unfold.specs.Faults.{value_fault}
 use Rattle.c2po_unfold.specs.Environment.{Env, value, declare, signal_value}
 use Rattle.c2po_types.specs.Outputs.{Place, before, place_after, with_signals}
-use Rattle.c2po_types.proofs.Ruling.{rule_is}
+use Rattle.c2po_types.proofs.Ruling.{known, rule_is}
 use Rattle.obs_show.specs.Lines.{Reference, Form, Line, input, define, formula, contract}
+use Rattle.c2po_types.proofs.SignalLaws.{signal_last}
+use Rattle.c2po_types.proofs.Parts.{ok-inj}
 use Rattle.show_roundtrip.specs.Said.{reference_shape, line_body, line_item, line_items}
-use Rattle.show_roundtrip.proofs.Fresh.{signal_added, signal_ok}
+use Rattle.show_roundtrip.proofs.Fresh.{signal_ok}
 use Rattle.show_roundtrip.proofs.Passing.{form_value, reference_value, added, ValuePasses, ValuesPass, KindPasses, KindsPass, label_in, LabelsPass}
 use Rattle.show_roundtrip.proofs.Whole.{input_declares}
-
--- what is known, of its parts
-abbrev known : Declarations → Labels → Env → ℕ → State
-known d labels env total = record { declared = d; labels = labels; values = env; total = total }
 
 -- a check that goes on from there
 abbrev goes_on : Declarations → Labels → Env → ℕ → Checked State
@@ -43,9 +41,6 @@ same_way d e l m v w t u declared labels env total =
     ∙ ap (λ (x : Labels). goes_on e x v t) labels
     ∙ ap (λ (x : Env). goes_on e m x t) env
     ∙ ap (λ (x : ℕ). goes_on e m w x) total
-
-ok_same : {X : Type 0} (x y : X) → ◌≡◌ {A = Checked X} (Ok x) (Ok y) → x ≡ y
-ok_same x y e = cc
 
 at_most : (a b : ℕ) → a ≤ b → nat_le a b ≡ true
 at_most a b h = grind (arith, nat_tests)
@@ -70,11 +65,11 @@ input_goes n x truth d later labels next p total count kinds label =
     ∙ ap (λ (m : ℕ). declare x (value (signal_value truth m)) p.values) count
     ∙ sym (input_declares n x truth p) in
     let none : total ≡ total + 0 = omega arith in
-    let more : length (signal_added truth x d).signals ≡ q.signals = omega (arith, length-append d.signals one, count) in
+    let more : length (signal_last truth x d).signals ≡ q.signals = omega (arith, length-append d.signals one, count) in
     record {
       step =
           ap (λ (m : Checked Declarations). m >>= λ c. goes_on c labels (with_signals k (drop k c.signals) p.values) total) kinds
-          ∙ same_way later later labels next (with_signals k (drop k later.signals) p.values) q.values total (total + 0) refl (ok_same labels next label) env none;
+          ∙ same_way later later labels next (with_signals k (drop k later.signals) p.values) q.values total (total + 0) refl (ok-inj labels next label) env none;
       counted = ap (λ (c : Declarations). length c.signals) (sym both.1) ∙ more;
     }
 
@@ -93,7 +88,7 @@ define_goes n x f d later labels next p total count kinds label passes =
           ap (λ (m : Checked Kind). m >>= λ k. defined n x (with_value x k d) v s) kinds.1
           ∙ ap (λ (b : Bool). if b then when_ranged n (value_fault v) after else Err (fault.Wide n)) (at_most (weight v) MAX_WEIGHT passes.0)
           ∙ ap (λ (o : Option NoRange). when_ranged n o after) passes.1
-          ∙ same_way (with_value x kinds.0 d) later labels next (declare x (value v) p.values) (declare x (value v) p.values) total (total + 0) kinds.2 (ok_same labels next label) refl none;
+          ∙ same_way (with_value x kinds.0 d) later labels next (declare x (value v) p.values) (declare x (value v) p.values) total (total + 0) kinds.2 (ok-inj labels next label) refl none;
       counted = ap (λ (c : Declarations). length c.signals) (sym kinds.2) ∙ count ∙ more;
     }
 

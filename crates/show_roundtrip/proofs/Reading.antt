@@ -28,6 +28,7 @@ use Rattle.c2po_lexer.specs.declared.front.Front.{Front}
 use Rattle.c2po_lexer.specs.declared.front.Front.TheVariants as front
 use Rattle.c2po_lexer.specs.declared.token.Token.{Token}
 use Rattle.c2po_lexer.specs.declared.fault.LexFault.{LexFault}
+use Rattle.show_roundtrip.proofs.Formed.{not_true}
 use Rattle.show_roundtrip.specs.Written.{Mark, token, space, newline, IsName, IsToken, Ends, token_text, ends_before, MarksAreReadable, tokens_by, marks_text}
 
 -- a run that a further byte ends
@@ -189,15 +190,11 @@ reads_break : (tail : List ℕ) → Reads None 1 (10 ∷ []) tail
 unfolding front_of
 reads_break tail = record { kind = front.Blank; front = refl; size = refl; some = omega arith; lines = refl; token = λ line. refl }
 
-passes_not : (x : Bool) → not x ≡ true → x ≡ false
-passes_not true h = cc
-passes_not false h = refl
-
 reads_token : (w : What) (tail : List ℕ) → IsToken w → Ends w tail → Reads (Some w) 0 (token_text w) tail
 reads_token w [] h ends = absurd ends
-reads_token (what.Word x) (b ∷ tail) h ends = reads_word x None b tail h.begins (name_word x h) (passes_not (is_in_word b) ends)
-reads_token (what.Reserved k) (b ∷ tail) h ends = reads_word (keyword_text k) (Some k) b tail (keyword_begins k) (keyword_word k) (passes_not (is_in_word b) ends)
-reads_token (what.Number (pos n)) (b ∷ tail) h ends = reads_number n b tail h (passes_not (is_ascii_digit b) ends)
+reads_token (what.Word x) (b ∷ tail) h ends = reads_word x None b tail h.begins (name_word x h) (not_true (is_in_word b) ends)
+reads_token (what.Reserved k) (b ∷ tail) h ends = reads_word (keyword_text k) (Some k) b tail (keyword_begins k) (keyword_word k) (not_true (is_in_word b) ends)
+reads_token (what.Number (pos n)) (b ∷ tail) h ends = reads_number n b tail h (not_true (is_ascii_digit b) ends)
 reads_token (what.Number (negsuc n)) (b ∷ tail) h ends = absurd h
 reads_token (what.Sign s) (b ∷ tail) h ends = reads_sign s b tail ends
 

@@ -7,7 +7,7 @@ use Rattle.std.specs.Str.{bytes_eq}
 use Rattle.std.proofs.Math.Seq.{take-append_seam}
 use Rattle.std.proofs.lemmas.Option.{same_Some, slice_get_within}
 use Rattle.std.proofs.lemmas.List.{length-append, length-take}
-use Rattle.std.proofs.lemmas.Bool.{and_parts, lt-leb}
+use Rattle.std.proofs.lemmas.Bool.{and_parts, lt-leb, ltb-true}
 use Rattle.mltl_base.specs.declared.interval.Engine.TheVariants.{Ft, Pt}
 use Rattle.mltl_base.specs.declared.limits.TheConstants.{MAX_SIGNALS}
 use Rattle.mltl_base.specs.declared.operators.ArithOp as arith_op
@@ -31,28 +31,21 @@ use Rattle.c2po_types.specs.Kinds.{whole, truth}
 use Rattle.c2po_types.specs.Items.{nothing, signal_kind}
 use Rattle.obs_verify.specs.Layout.{HasLayout}
 use Rattle.obs_verify.specs.WellFormed.{IsWellFormed, first_in, width_fault, signal_fault, is_new_signal, has_kind, is_whole, is_truth, is_whole_before, has_operands, has_future_operands, has_future_window, has_past_operands, has_past_window}
-use Rattle.obs_verify.proofs.ExpressionLaws.{slice_get-take}
+use Rattle.obs_verify.proofs.ExpressionLaws.{slice_get-take, whole_inside}
 use Rattle.obs_verify.proofs.SignalLaws.{any-push}
 use Rattle.obs_show.specs.Lines.{arith as computes, compare, Line}
 use Rattle.obs_show.specs.Naming.{is_operation, is_future_operation, is_past_operation, bz_operations, ft_operations, pt_operations, operations, defined_name, is_signal_name, name_in, bz_name, bz_called, bz_reference, ft_name, ft_called, ft_reference, pt_name, pt_called, pt_reference}
 use Rattle.obs_show.specs.Text.{signal_line, bz_form, bz_line, ft_form, ft_line, pt_form, pt_line, output_line, output_lines, numbered_lines, shown_lines}
 use Rattle.obs_show.proofs.FreeLaws.{defined_is_new}
+use Rattle.c2po_types.proofs.SignalLaws.{signal_last}
+use Rattle.obs_verify.proofs.RuleLaws.{unless_true}
 use Rattle.show_roundtrip.proofs.Walk.{get_push, HaveOwnColumns, InColumn, in_column, kind_for, HaveOperands}
 use Rattle.show_roundtrip.proofs.Engines.{is_within, HaveFutureOperands, HavePastOperands}
 use Rattle.show_roundtrip.proofs.Whole.{HaveReports}
-use Rattle.show_roundtrip.proofs.Fresh.{signal_added}
-use Rattle.show_roundtrip.proofs.Formed.{none_left, none_right, passed, first_none, others_none, not_passes, well_formed_said}
+use Rattle.show_roundtrip.proofs.Formed.{none_left, none_right, first_none, others_none, well_formed_said, not_true}
 use Rattle.show_roundtrip.proofs.Passing.{KindPasses, KindsPass}
 use Rattle.show_roundtrip.proofs.FormKinds.{push_later, pushed_entry, pushed_named, HasKindIn, FormHasKind, minus_kind, arith_kind, compare_kind, negation_kind, logic_kind, between_kind, input_passes, formula_passes, contract_passes}
-use Rattle.show_roundtrip.proofs.KindWalk.{KnowsKinds, Stays, kinds_stay, HasRightKind, under, walk_part}
-
--- an operand before the number of its reader
-is_before : (program : Program) (i a : ℕ) → is_whole_before program i a ≡ true → a < i
-is_before program i a h = go (slice_get (take i program.bz) a) refl h
-  where
-    go : (o : Option bz.BzOp) → slice_get (take i program.bz) a ≡ o → is_whole o ≡ true → a < i
-    go None e g = absurd (cc)
-    go (Some op) e g = omega (arith, slice_get_within (take i program.bz) a op e, length-take i program.bz)
+use Rattle.show_roundtrip.proofs.KindWalk.{KnowsKinds, Stays, kinds_stay, HasRightKind, walk_part}
 
 -- ---- signals
 
@@ -83,8 +76,8 @@ signal_kinds_push front s names free h j t i = pick (get_push front s t j i)
 name_is_new : (program : Program) (front : List StoredSignal) (s : StoredSignal) (ss : List StoredSignal) (k : ℕ) → program.signals ≡ front ++ s ∷ ss → length front ≡ k → signal_fault program k s ≡ None → is_signal_name front s.name ≡ false
 name_is_new program front s ss k all len none =
     let cut : take k program.signals ≡ front = ap (λ (xs : List StoredSignal). take k xs) all ∙ ap (λ (n : ℕ). take n (front ++ s ∷ ss)) (sym len) ∙ take-append_seam front (s ∷ ss) in
-    let here : is_new_signal program.width front s ≡ true = ap (λ (xs : List StoredSignal). is_new_signal program.width xs s) (sym cut) ∙ passed (is_new_signal program.width (take k program.signals) s) _ none in
-    not_passes (is_signal_name front s.name) (and_parts (nat_lt s.column program.width && not (list_any (λ t. t.column == s.column) front)) (not (is_signal_name front s.name)) here).1
+    let here : is_new_signal program.width front s ≡ true = ap (λ (xs : List StoredSignal). is_new_signal program.width xs s) (sym cut) ∙ unless_true (is_new_signal program.width (take k program.signals) s) _ none in
+    not_true (is_signal_name front s.name) (and_parts (nat_lt s.column program.width && not (list_any (λ t. t.column == s.column) front)) (not (is_signal_name front s.name)) here).1
 
 walk_signals : (program : Program) (front ss : List StoredSignal) (k n : ℕ) (more : List Line) (d : Declarations)
     → length program.signals ≤ MAX_SIGNALS → program.signals ≡ front ++ ss → length front ≡ k → first_in (signal_fault program) k ss ≡ None → AreDeclared front d
@@ -92,7 +85,7 @@ walk_signals : (program : Program) (front ss : List StoredSignal) (k n : ℕ) (m
 unfolding KindsPass
 walk_signals program front [] k n more d few all len none h go = go n d (subst (λ (ss : List StoredSignal). AreDeclared ss d) (sym (all ∙ append-nil front)) h)
 walk_signals program front (s ∷ ss) k n more d few all len none h go =
-    let later : Declarations = signal_added s.truth s.name d in
+    let later : Declarations = signal_last s.truth s.name d in
     let free : is_named s.name d.names ≡ false = h.only s.name ∙ name_is_new program front s ss k all len (first_none (signal_fault program) k s ss none) in
     let counted : length program.signals ≡ length front + length (s ∷ ss) = ap (λ (xs : List StoredSignal). length xs) all ∙ length-append front (s ∷ ss) in
     let room : length d.signals < MAX_SIGNALS = omega (arith, h.count, counted, few) in
@@ -126,7 +119,7 @@ column_kind signals c b names own kind h =
 
 operand_kind : (program : Program) (i a : ℕ) (names : Table Meaning) → BzKinds program i names → is_whole_before program i a ≡ true → HasKindIn names (bz_reference program a) whole
 operand_kind program i a names h e =
-    let inside : a < i = is_before program i a e in
+    let inside : a < i = whole_inside program i a e in
     let test : is_whole (slice_get program.bz a) ≡ true = ap is_whole (sym (slice_get-take i program.bz a inside)) ∙ e in
     subst (λ (k : Kind). HasKindIn names (bz_reference program a) k) (ap (λ (b : Bool). if b then whole else truth) test) (h a inside)
 
@@ -183,18 +176,11 @@ gives_truth i = truth
 
 truth_is_no_whole : (o : Option bz.BzOp) → is_truth o ≡ true → is_whole o ≡ false
 truth_is_no_whole None h = refl
-truth_is_no_whole (Some (bz.TheVariants.Column c)) h = absurd (cc)
 truth_is_no_whole (Some (bz.TheVariants.IsTrue c)) h = refl
-truth_is_no_whole (Some (bz.TheVariants.Const n)) h = absurd (cc)
-truth_is_no_whole (Some (bz.TheVariants.Neg a)) h = absurd (cc)
-truth_is_no_whole (Some (bz.TheVariants.Add a b)) h = absurd (cc)
-truth_is_no_whole (Some (bz.TheVariants.Sub a b)) h = absurd (cc)
-truth_is_no_whole (Some (bz.TheVariants.Mul a b)) h = absurd (cc)
-truth_is_no_whole (Some (bz.TheVariants.Div a b)) h = absurd (cc)
-truth_is_no_whole (Some (bz.TheVariants.Rem a b)) h = absurd (cc)
 truth_is_no_whole (Some (bz.TheVariants.Eq a b)) h = refl
 truth_is_no_whole (Some (bz.TheVariants.Lt a b)) h = refl
 truth_is_no_whole (Some (bz.TheVariants.Le a b)) h = refl
+truth_is_no_whole _ h = absurd (cc)
 
 loaded_kind : (program : Program) (a : ℕ) (names : Table Meaning) → BzKinds program (length program.bz) names → is_truth (slice_get program.bz a) ≡ true → HasKindIn names (bz_reference program a) truth
 loaded_kind program a names h ok =
@@ -207,13 +193,13 @@ ft_right : (program : Program) (i : ℕ) (op : ft.FtOp) (d : Declarations) → h
     → HasRightKind d (ft_form program op) (is_future_operation op) (ft_name program i) (ft_called program i (Some op)) truth
 ft_right program i ft.TheVariants.True d ok w base h = (refl, refl)
 ft_right program i (ft.TheVariants.Load a) d ok w base h = (refl, loaded_kind program a d.names base ok)
-ft_right program i (ft.TheVariants.Not g) d ok w base h = (refl, refl, negation_kind (ft_reference program g) d (h g (under g i ok)))
+ft_right program i (ft.TheVariants.Not g) d ok w base h = (refl, refl, negation_kind (ft_reference program g) d (h g (ltb-true g i ok)))
 ft_right program i (ft.TheVariants.And l r) d ok w base h =
     let parts : (nat_lt l i ≡ true) × (nat_lt r i ≡ true) = and_parts (nat_lt l i) (nat_lt r i) ok in
-    (refl, refl, logic_kind logic_op.TheVariants.And (ft_reference program l) (ft_reference program r) d (h l (under l i parts.0)) (h r (under r i parts.1)))
+    (refl, refl, logic_kind logic_op.TheVariants.And (ft_reference program l) (ft_reference program r) d (h l (ltb-true l i parts.0)) (h r (ltb-true r i parts.1)))
 ft_right program i (ft.TheVariants.Until l r window) d ok w base h =
     let parts : (nat_lt l i ≡ true) × (nat_lt r i ≡ true) = and_parts (nat_lt l i) (nat_lt r i) ok in
-    (refl, refl, between_kind between_op.TheVariants.U window (ft_reference program l) (ft_reference program r) d w (h l (under l i parts.0)) (h r (under r i parts.1)))
+    (refl, refl, between_kind between_op.TheVariants.U window (ft_reference program l) (ft_reference program r) d w (h l (ltb-true l i parts.0)) (h r (ltb-true r i parts.1)))
 
 abbrev FutureAt : Program → ℕ → ft.FtOp → Type 0
 FutureAt program i op = (has_future_operands program i op ≡ true) × (has_future_window op ≡ true)
@@ -239,13 +225,13 @@ pt_right : (program : Program) (i : ℕ) (op : pt.PtOp) (d : Declarations) → h
     → HasRightKind d (pt_form program op) (is_past_operation op) (pt_name program i) (pt_called program i (Some op)) truth
 pt_right program i pt.TheVariants.True d ok w base h = (refl, refl)
 pt_right program i (pt.TheVariants.Load a) d ok w base h = (refl, loaded_kind program a d.names base ok)
-pt_right program i (pt.TheVariants.Not g) d ok w base h = (refl, refl, negation_kind (pt_reference program g) d (h g (under g i ok)))
+pt_right program i (pt.TheVariants.Not g) d ok w base h = (refl, refl, negation_kind (pt_reference program g) d (h g (ltb-true g i ok)))
 pt_right program i (pt.TheVariants.And l r) d ok w base h =
     let parts : (nat_lt l i ≡ true) × (nat_lt r i ≡ true) = and_parts (nat_lt l i) (nat_lt r i) ok in
-    (refl, refl, logic_kind logic_op.TheVariants.And (pt_reference program l) (pt_reference program r) d (h l (under l i parts.0)) (h r (under r i parts.1)))
+    (refl, refl, logic_kind logic_op.TheVariants.And (pt_reference program l) (pt_reference program r) d (h l (ltb-true l i parts.0)) (h r (ltb-true r i parts.1)))
 pt_right program i (pt.TheVariants.Since l r window) d ok w base h =
     let parts : (nat_lt l i ≡ true) × (nat_lt r i ≡ true) = and_parts (nat_lt l i) (nat_lt r i) ok in
-    (refl, refl, between_kind between_op.TheVariants.S window (pt_reference program l) (pt_reference program r) d w (h l (under l i parts.0)) (h r (under r i parts.1)))
+    (refl, refl, between_kind between_op.TheVariants.S window (pt_reference program l) (pt_reference program r) d w (h l (ltb-true l i parts.0)) (h r (ltb-true r i parts.1)))
 
 abbrev PastAt : Program → ℕ → pt.PtOp → Type 0
 PastAt program i op = (has_past_operands program i op ≡ true) × (has_past_window op ≡ true)
@@ -272,14 +258,14 @@ record EnginesRight (program : Program) (names : Table Meaning) : Type 0 where
   pt : PtKinds program (length program.pt) names
 
 output_passes : (program : Program) (n k : ℕ) (o : out.Out) (d : Declarations) → EnginesRight program d.names → HaveReports program (o ∷ []) → KindPasses n (output_line program k o) d d
-output_passes program n k (out.TheVariants.Formula Ft i name) d h w = (truth, formula_passes n (ft_reference program i) d (h.ft i (under i (length program.ft) w.0)), refl)
-output_passes program n k (out.TheVariants.Formula Pt i name) d h w = (truth, formula_passes n (pt_reference program i) d (h.pt i (under i (length program.pt) w.0)), refl)
+output_passes program n k (out.TheVariants.Formula Ft i name) d h w = (truth, formula_passes n (ft_reference program i) d (h.ft i (ltb-true i (length program.ft) w.0)), refl)
+output_passes program n k (out.TheVariants.Formula Pt i name) d h w = (truth, formula_passes n (pt_reference program i) d (h.pt i (ltb-true i (length program.pt) w.0)), refl)
 output_passes program n k (out.TheVariants.Contract Ft i j name) d h w =
     let parts : (nat_lt i (length program.ft) ≡ true) × (nat_lt j (length program.ft) ≡ true) = and_parts (nat_lt i (length program.ft)) (nat_lt j (length program.ft)) w.0 in
-    (truth, contract_passes n (ft_reference program i) (ft_reference program j) d (h.ft i (under i (length program.ft) parts.0)) (h.ft j (under j (length program.ft) parts.1)), refl)
+    (truth, contract_passes n (ft_reference program i) (ft_reference program j) d (h.ft i (ltb-true i (length program.ft) parts.0)) (h.ft j (ltb-true j (length program.ft) parts.1)), refl)
 output_passes program n k (out.TheVariants.Contract Pt i j name) d h w =
     let parts : (nat_lt i (length program.pt) ≡ true) × (nat_lt j (length program.pt) ≡ true) = and_parts (nat_lt i (length program.pt)) (nat_lt j (length program.pt)) w.0 in
-    (truth, contract_passes n (pt_reference program i) (pt_reference program j) d (h.pt i (under i (length program.pt) parts.0)) (h.pt j (under j (length program.pt) parts.1)), refl)
+    (truth, contract_passes n (pt_reference program i) (pt_reference program j) d (h.pt i (ltb-true i (length program.pt) parts.0)) (h.pt j (ltb-true j (length program.pt) parts.1)), refl)
 
 outputs_pass : (program : Program) (outs : List out.Out) (n k : ℕ) (d : Declarations) → EnginesRight program d.names → HaveReports program outs
     → KindsPass n (map (λ x. output_line program x.0 x.1) (enumerate_from k outs)) d

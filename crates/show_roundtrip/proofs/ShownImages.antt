@@ -26,6 +26,7 @@ use Rattle.obs_show.specs.declared.fault.ShowFault.TheVariants.{TooLong, Wide}
 use Rattle.obs_show.specs.Limits.{show_fault}
 use Rattle.obs_show.specs.Text.{shown_lines, text}
 use Rattle.obs_show.specs.Weight.{program_weight}
+use Rattle.std.proofs.lemmas.Bool.{ltb-false}
 use Rattle.show_roundtrip.specs.Said.{HaveWords, lines_marks, line_items}
 use Rattle.show_roundtrip.specs.Written.{tokens_by}
 use Rattle.show_roundtrip.specs.Named.{HasOwnWords}
@@ -53,10 +54,6 @@ text_passes program words faultless =
     ∙ ap (λ (is : List ItemShape). option_map check_refusal (first_fault is)) (items_said program words)
     ∙ ap (option_map check_refusal) faultless
 
--- a program within both limits is within that of weight
-not_above : (a b : ℕ) → nat_lt a b ≡ false → b ≤ a
-not_above a b h = grind (arith, nat_tests)
-
 second_off : (long wide : Bool) → ◌≡◌ {A = Option ShowFault} (if long then Some TooLong else if wide then Some Wide else None) None → wide ≡ false
 second_off true wide h = absurd (cc)
 second_off false true h = absurd (cc)
@@ -64,7 +61,7 @@ second_off false false h = refl
 
 within_weight : (program : Program) → show_fault program ≡ None → program_weight program ≤ MAX_WEIGHT
 within_weight program h =
-    not_above MAX_WEIGHT (program_weight program) (second_off (nat_lt MAX_SHOWN_BYTES (length (text program))) (nat_lt MAX_WEIGHT (program_weight program)) h)
+    ltb-false MAX_WEIGHT (program_weight program) (second_off (nat_lt MAX_SHOWN_BYTES (length (text program))) (nat_lt MAX_WEIGHT (program_weight program)) h)
 
 -- the text of a program of version 2 with words of its own, few signals, light instructions, and labels that differ
 program_passes : (program : Program) → HasLayout program → IsWellFormed program → program.version ≡ 2 → HasOwnWords program → length program.signals ≤ MAX_SIGNALS → IsLight program

@@ -29,7 +29,6 @@ all_signals (l ∷ ls) = signals_by l ++ all_signals ls
 
 body_is : (n : ℕ) (l : Line) → body_signals (line_body n l) ≡ signals_by l
 body_is n (input x true) = refl
-body_is n (input x false) = refl
 body_is n _ = refl
 
 items_are : (ls : List Line) (n : ℕ) → signals_of (line_items n ls) ≡ all_signals ls

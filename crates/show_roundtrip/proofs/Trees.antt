@@ -41,19 +41,13 @@ use Rattle.c2po_parse.specs.Forms.{body_of, define_of, input_of, names_within, t
 use Rattle.c2po_parse.specs.Specification.{with_line, piece_tree}
 use Rattle.c2po_parse.specs.declared.fault.ParseFault.TheVariants.{TooManyTokens}
 use Rattle.obs_show.specs.Lines.{Reference, always, named, number, Form, minus, arith as computes, compare, negation, logic, between, Line, input, define, formula, contract}
+use Rattle.c2po_parse.proofs.ClimbSound.{lower}
 use Rattle.show_roundtrip.specs.Written.{token, token_text, tokens_by}
 use Rattle.show_roundtrip.specs.Said.{reference_token, arith_sign, compare_sign, logic_sign, between_word, interval_marks, form_marks, section_word, body_marks, reference_shape, form_shape, line_body, line_item}
 
 -- a token at a place
 abbrev pub at_place : (line start end : ℕ) → What → Token
 at_place line start end w = record { what = w; line = line; start = start; end = end }
-
--- what is derived at a level is derived at each looser one
-lower : (d k : ℕ) (c : List Token) (e : Shape) → k + d ≤ 12 → Derives (k + d) c e → Derives k c e
-lower zero k c e le h = let same : k + 0 ≡ k = omega arith in subst (λ n. Derives n c e) same h
-lower (suc d) k c e le h =
-    let same : k + suc d ≡ suc k + d = omega arith in
-    down k c e (omega arith) (lower d (suc k) c e (omega arith) (subst (λ n. Derives n c e) same h))
 
 lowered : (j k : ℕ) (c : List Token) (e : Shape) → k ≤ j → j ≤ 12 → Derives j c e → Derives k c e
 lowered j k c e below top h =
@@ -85,16 +79,8 @@ pub record AreLevels (op : Infix) : Type 0 where
 
 levels : (op : Infix) → AreLevels op
 levels (Logic logic_op.TheVariants.Iff) = record { left = omega arith; right = omega arith; low = omega arith; high = omega arith }
-levels (Logic logic_op.TheVariants.Implies) = record { left = omega arith; right = omega arith; low = omega arith; high = omega arith }
-levels (Logic logic_op.TheVariants.Or) = record { left = omega arith; right = omega arith; low = omega arith; high = omega arith }
-levels (Logic logic_op.TheVariants.And) = record { left = omega arith; right = omega arith; low = omega arith; high = omega arith }
-levels (Between op a b) = record { left = omega arith; right = omega arith; low = omega arith; high = omega arith }
-levels (Compare op) = record { left = omega arith; right = omega arith; low = omega arith; high = omega arith }
 levels (Arith arith_op.TheVariants.Add) = record { left = omega arith; right = omega arith; low = omega arith; high = omega arith }
-levels (Arith arith_op.TheVariants.Sub) = record { left = omega arith; right = omega arith; low = omega arith; high = omega arith }
-levels (Arith arith_op.TheVariants.Mul) = record { left = omega arith; right = omega arith; low = omega arith; high = omega arith }
-levels (Arith arith_op.TheVariants.Div) = record { left = omega arith; right = omega arith; low = omega arith; high = omega arith }
-levels (Arith arith_op.TheVariants.Rem) = record { left = omega arith; right = omega arith; low = omega arith; high = omega arith }
+levels _ = record { left = omega arith; right = omega arith; low = omega arith; high = omega arith }
 
 two_derive : (line : ℕ) (op : Infix) (x r : Token) (ops : List Token) (e f : Shape) → operator_at (ops ++ r ∷ []) ≡ Some (Binary line op, r ∷ []) → Derives 12 (x ∷ []) e → Derives 12 (r ∷ []) f
     → Derives 1 (x ∷ (ops ++ r ∷ [])) (joined line op e f)
@@ -128,8 +114,7 @@ between_tokens op window line s = tokens_by line s (token (what.Reserved (betwee
 between_reads : (op : between_op.BetweenOp) (window : Interval) (line s : ℕ) (r : Token) → operator_at (between_tokens op window line s ++ r ∷ []) ≡ Some (Binary line (Between op window.lo window.hi), r ∷ [])
 unfolding operator_at interval_at tokens_by
 between_reads between_op.TheVariants.U window line s r = refl
-between_reads between_op.TheVariants.R window line s r = refl
-between_reads between_op.TheVariants.S window line s r = refl
+between_reads _ window line s r = refl
 
 -- the tokens of a form derive its tree
 form_derives : (f : Form) (line s : ℕ) → Derives 1 (tokens_by line s (form_marks f)) (form_shape line f)
@@ -168,11 +153,9 @@ section_in (contract engine label x y) = Output engine
 
 pub section_begins : (l : Line) → section_of (what.Reserved (section_word l)) ≡ Some (section_in l)
 section_begins (input x truth) = refl
-section_begins (define x form) = refl
 section_begins (formula Ft label x) = refl
-section_begins (formula Pt label x) = refl
 section_begins (contract Ft label x y) = refl
-section_begins (contract Pt label x y) = refl
+section_begins _ = refl
 
 input_reads : (x : List ℕ) (truth : Bool) (line s : ℕ) → body_of Input (tokens_by line s (body_marks (input x truth))) ≡ Some (line_body line (input x truth))
 unfolding tokens_by input_of names_within type_within
@@ -192,25 +175,12 @@ said_as engine label o = option_and_then (λ e. Some (item.formula engine label 
 formula_reads : (engine : Engine) (label : Option (List ℕ)) (x : Reference) (line s : ℕ) → body_of (Output engine) (tokens_by line s (body_marks (formula engine label x))) ≡ Some (line_body line (formula engine label x))
 unfolding tokens_by output_item label_at promise_at
 formula_reads engine None always line s = ap (said_as engine None) (reference_tree always line _ _)
-formula_reads engine None (named y) line s = ap (said_as engine None) (reference_tree (named y) line _ _)
-formula_reads engine None (number n) line s = ap (said_as engine None) (reference_tree (number n) line _ _)
 formula_reads engine (Some x) always line s = ap (said_as engine (Some x)) (reference_tree always line _ _)
-formula_reads engine (Some x) (named y) line s = ap (said_as engine (Some x)) (reference_tree (named y) line _ _)
-formula_reads engine (Some x) (number n) line s = ap (said_as engine (Some x)) (reference_tree (number n) line _ _)
+formula_reads engine y y' line s = ap (said_as engine y) (reference_tree y' line _ _)
 
 -- the tokens of a contract after its label
 abbrev contract_tokens : (line a b c d e f : ℕ) → Reference → Reference → List Token
 contract_tokens line a b c d e f x y = at_place line a b (reference_token x) ∷ at_place line c d (what.Sign sign.Promises) ∷ at_place line e f (reference_token y) ∷ []
-
-flat : (x : Reference) (s : Sign) → is_sign s (reference_token x) ≡ false
-flat always s = refl
-flat (named y) s = refl
-flat (number n) s = refl
-
-flat_depth : (x : Reference) (d : ℕ) → depth_after (reference_token x) d ≡ d
-flat_depth always d = refl
-flat_depth (named y) d = refl
-flat_depth (number n) d = refl
 
 abbrev promise : Engine → Option (List ℕ) → Option Shape → Option Shape → Option BodyShape
 promise engine label o u = option_and_then (λ e. option_and_then (λ f. Some (item.contract engine label e f)) u) o
@@ -218,14 +188,12 @@ promise engine label o u = option_and_then (λ e. option_and_then (λ f. Some (i
 no_promise : (y : Reference) (line e f : ℕ) → promise_at 0 0 (at_place line e f (reference_token y) ∷ []) ≡ None
 unfolding promise_at
 no_promise always line e f = refl
-no_promise (named x) line e f = refl
-no_promise (number n) line e f = refl
+no_promise _ line e f = refl
 
 promise_here : (x y : Reference) (line a b c d e f : ℕ) → promise_at 0 0 (contract_tokens line a b c d e f x y) ≡ Some 1
 unfolding promise_at
 promise_here always y line a b c d e f = refl
-promise_here (named x) y line a b c d e f = refl
-promise_here (number n) y line a b c d e f = refl
+promise_here _ y line a b c d e f = refl
 
 after_label : (engine : Engine) (label : Option (List ℕ)) (x y : Reference) (line a b c d e f : ℕ)
     → output_at engine label (contract_tokens line a b c d e f x y) (promise_at 0 0 (contract_tokens line a b c d e f x y)) ≡ Some (line_body line (contract engine label x y))
@@ -237,10 +205,9 @@ after_label engine label x y line a b c d e f =
 
 contract_reads : (engine : Engine) (label : Option (List ℕ)) (x y : Reference) (line s : ℕ) → body_of (Output engine) (tokens_by line s (body_marks (contract engine label x y))) ≡ Some (line_body line (contract engine label x y))
 unfolding tokens_by output_item label_at
-contract_reads engine None always y line s = after_label engine None always y line _ _ _ _ _ _
-contract_reads engine None (named x) y line s = after_label engine None (named x) y line _ _ _ _ _ _
-contract_reads engine None (number n) y line s = after_label engine None (number n) y line _ _ _ _ _ _
 contract_reads engine (Some z) x y line s = after_label engine (Some z) x y line _ _ _ _ _ _
+contract_reads engine None always y line s = after_label engine None always y line _ _ _ _ _ _
+contract_reads engine x x' y line s = after_label engine x x' y line _ _ _ _ _ _
 
 body_reads : (l : Line) (line s : ℕ) → body_of (section_in l) (tokens_by line s (body_marks l)) ≡ Some (line_body line l)
 body_reads (input x truth) line s = input_reads x truth line s
@@ -253,24 +220,16 @@ few_tokens : (l : Line) (line s : ℕ) → nat_lt 1024 (length (tokens_by line s
 unfolding tokens_by
 few_tokens (input x truth) line s = refl
 few_tokens (define x (minus a)) line s = refl
-few_tokens (define x (computes op a b)) line s = refl
-few_tokens (define x (compare op a b)) line s = refl
-few_tokens (define x (negation a)) line s = refl
-few_tokens (define x (logic op a b)) line s = refl
-few_tokens (define x (between op window a b)) line s = refl
 few_tokens (formula engine None x) line s = refl
-few_tokens (formula engine (Some y) x) line s = refl
 few_tokens (contract engine None x y) line s = refl
-few_tokens (contract engine (Some z) x y) line s = refl
+few_tokens _ line s = refl
 
 first_line : (l : Line) (line s : ℕ) → line_or line (tokens_by line s (body_marks l)) ≡ line
 unfolding tokens_by
 first_line (input x truth) line s = refl
-first_line (define x f) line s = refl
 first_line (formula engine None x) line s = refl
-first_line (formula engine (Some y) x) line s = refl
 first_line (contract engine None x y) line s = refl
-first_line (contract engine (Some z) x y) line s = refl
+first_line _ line s = refl
 
 pub line_tree : (l : Line) (line s : ℕ) → piece_tree (item_of (Some (section_in l)) line (tokens_by line s (body_marks l))) ≡ Ok (line_item line l)
 line_tree l line s =

@@ -4,7 +4,6 @@ use Rattle.std.proofs.Common.{◌≡◌, ◌∙◌, ℕ, ◌+◌, ◌≤◌, tru
 use Rattle.std.specs.Prelude.{if◌then◌else◌, min}
 use Rattle.std.specs.Str.{bytes_eq}
 use Rattle.std.proofs.lemmas.Option.{same_Some}
-use Rattle.std.proofs.lemmas.Slice.Eq.{bytes_eq-Decides}
 use Rattle.mltl_base.specs.declared.limits.TheConstants.{MAX_BOUND}
 use Rattle.mltl_base.specs.declared.interval.Interval.{Interval}
 use Rattle.mltl_base.specs.declared.operators.ArithOp as arith_op
@@ -26,6 +25,7 @@ use Rattle.c2po_unfold.specs.Weights.{weight}
 use Rattle.c2po_unfold.specs.Environment.{Env, Known, nothing, value, declare, or_else, value_in, value_of}
 use Rattle.obs_show.specs.Lines.{Reference, always, named, number, Form, minus, arith as computes, compare, negation, logic, between}
 use Rattle.obs_show.specs.Weight.{term_weight, atom_weight, formula_weight}
+use Rattle.std.proofs.lemmas.Slice.Eq.{bytes_eq-Decides}
 use Rattle.show_roundtrip.specs.Said.{reference_shape, form_shape}
 
 -- a reference stands for a value where names have their meanings
@@ -35,33 +35,22 @@ Finds env (named x) v = env x ≡ value v
 Finds env (number n) v = v ≡ number_value n
 
 found : (env : Env) (n : ℕ) (x : Reference) (v : Value) → Finds env x v → value_of (reference_shape n x) env ≡ v
-found env n always v h = sym h
 found env n (named x) v h = ap value_in h
-found env n (number z) v h = sym h
+found env n _ v h = sym h
 
 -- a later environment, in which names keep their meanings
 abbrev pub IsLater : Env → Env → Type 0
 IsLater env later = (x : List ℕ) (v : Value) → env x ≡ value v → later x ≡ value v
 
-pub later_self : (env : Env) → IsLater env env
-later_self env x v h = h
-
-pub later_again : (a b c : Env) → IsLater a b → IsLater b c → IsLater a c
-later_again a b c h g x v e = g x v (h x v e)
-
 pub declare_later : (x : List ℕ) (k : Known) (env : Env) → IsLater env (declare x k env)
 declare_later x k env y v e = ap (λ m. or_else m (if bytes_eq y x then k else nothing)) e
 
-pub same_bytes : (x : List ℕ) → bytes_eq x x ≡ true
-same_bytes x = (bytes_eq-Decides x x).1 refl
-
 pub declared_here : (x : List ℕ) (v : Value) (env : Env) → env x ≡ nothing → declare x (value v) env x ≡ value v
-declared_here x v env e = ap (λ m. or_else m (if bytes_eq x x then value v else nothing)) e ∙ ap (λ b. if b then value v else nothing) (same_bytes x)
+declared_here x v env e = ap (λ m. or_else m (if bytes_eq x x then value v else nothing)) e ∙ ap (λ b. if b then value v else nothing) ((bytes_eq-Decides x x).1 refl)
 
 pub finds_later : (env later : Env) (x : Reference) (v : Value) → IsLater env later → Finds env x v → Finds later x v
-finds_later env later always v g h = h
 finds_later env later (named x) v g h = g x v h
-finds_later env later (number z) v g h = h
+finds_later env later _ v g h = h
 
 -- a value says an expression over columns, or a core formula, and weighs as much
 pub record SaysWhole (columns : List ℕ) (v : Value) (t : Term) : Type 0 where
@@ -83,8 +72,7 @@ Says columns v (truth a) = SaysFormula columns v (full.atom a)
 -- the faults of a value are those of its tree
 pub tree_faults : (v : Value) (t : nodes.Tree) → tree_in v ≡ Some t → value_fault v ≡ tree_fault t
 tree_faults (leaf l) t h = ap tree_fault (same_Some (leaf_tree l) t h)
-tree_faults (structure x vs) t h = absurd (cc)
-tree_faults (set vs) t h = absurd (cc)
+tree_faults _ t h = absurd (cc)
 
 -- the whole number, and the formula, of what is said
 says_term : (columns : List ℕ) (v : Value) (t : Term) → SaysWhole columns v t → term_over columns (values.term_of v) ≡ t

@@ -29,6 +29,8 @@ use Rattle.obs_show.specs.Lines.{Reference, named, Form, arith as computes, comp
 use Rattle.obs_show.specs.Naming.{name_in, bz_name, bz_called, bz_reference}
 use Rattle.obs_show.specs.Text.{bz_form, bz_line}
 use Rattle.obs_show.specs.Weight.{term_weight, formula_weight}
+use Rattle.c2po_nodes.proofs.Places.{get_left}
+use Rattle.obs_verify.proofs.RuleLaws.{and_right}
 use Rattle.show_roundtrip.specs.Said.{form_shape, line_body, line_items}
 use Rattle.show_roundtrip.specs.Unfolded.{AreNew}
 use Rattle.show_roundtrip.proofs.Passing.{form_value, ValuesPass}
@@ -173,10 +175,9 @@ any_weaker p q (x ∷ xs) h e = go (any_weaker p q xs h) (p x) refl e
     go ih false i g = rw (ih g) (or-true (q x))
 
 kind_test : (t b : Bool) → (if b then t else not t) ≡ true → t ≡ b
-kind_test true true h = refl
 kind_test true false h = absurd (cc)
 kind_test false true h = absurd (cc)
-kind_test false false h = refl
+kind_test _ _ h = refl
 
 pub in_column : (ss : List StoredSignal) (c : ℕ) (b : Bool) → HaveOwnColumns ss → has_kind ss c b ≡ true → InColumn ss c b
 in_column [] c b own h = absurd (cc)
@@ -204,12 +205,9 @@ HasKindFor program (bz.TheVariants.Column c) = has_kind program.signals c false 
 HasKindFor program (bz.TheVariants.IsTrue c) = has_kind program.signals c true ≡ true
 HasKindFor program op = ⊤
 
-right_and : (a b : Bool) → (a && b) ≡ true → b ≡ true
-right_and a b h = (and_parts a b h).1
-
 pub kind_for : (program : Program) (i : ℕ) (op : bz.BzOp) → program.version ≡ 2 → has_operands program i op ≡ true → HasKindFor program op
-kind_for program i (bz.TheVariants.Column c) v h = ap (λ n. (n == 1) || has_kind program.signals c false) (sym v) ∙ right_and (nat_lt c program.width) ((program.version == 1) || has_kind program.signals c false) h
-kind_for program i (bz.TheVariants.IsTrue c) v h = ap (λ n. (n == 1) || has_kind program.signals c true) (sym v) ∙ right_and (nat_lt c program.width) ((program.version == 1) || has_kind program.signals c true) h
+kind_for program i (bz.TheVariants.Column c) v h = ap (λ n. (n == 1) || has_kind program.signals c false) (sym v) ∙ and_right (nat_lt c program.width) ((program.version == 1) || has_kind program.signals c false) h
+kind_for program i (bz.TheVariants.IsTrue c) v h = ap (λ n. (n == 1) || has_kind program.signals c true) (sym v) ∙ and_right (nat_lt c program.width) ((program.version == 1) || has_kind program.signals c true) h
 kind_for program i _ v h = tt
 
 bz_reads : (program : Program) (env : Env) (i : ℕ) (before : List Expression) (op : bz.BzOp) → KnowsSignals program.signals env → HaveOwnColumns program.signals → HasKindFor program op → bz_form program op ≡ None
@@ -231,7 +229,6 @@ bz_reads program env i before (bz.TheVariants.IsTrue c) know own kind none =
     }
 bz_reads program env i before (bz.TheVariants.Const n) know own kind none =
     record { of = number_value n; finds = refl; says = record { tree = atoms.constant n; is = refl; over = refl; weighs = refl } }
-bz_reads program env i before (bz.TheVariants.Neg a) know own kind none = absurd (cc)
 bz_reads program env i before _ know own kind none = absurd (cc)
 
 -- an operation is called by its defined name
@@ -326,16 +323,10 @@ abbrev pub HaveOperands : Program → ℕ → List bz.BzOp → Type 0
 HaveOperands program i [] = ⊤
 HaveOperands program i (op ∷ ops) = (has_operands program i op ≡ true) × HaveOperands program (i + 1) ops
 
--- the expressions of earlier instructions stay
-pub get_kept : {X : Type 0} (xs ys : List X) (i : ℕ) (x : X) → slice_get xs i ≡ Some x → slice_get (xs ++ ys) i ≡ Some x
-get_kept [] ys i x e = absurd (cc)
-get_kept (z ∷ xs) ys zero x e = e
-get_kept (z ∷ xs) ys (suc i) x e = get_kept xs ys i x e
-
 pub expressions_kept : (ops : List bz.BzOp) (before : List Expression) (i : ℕ) (e : Expression) → slice_get before i ≡ Some e → slice_get (expressions_after before ops) i ≡ Some e
 unfolding expressions_after
 expressions_kept [] before i e h = h
-expressions_kept (op ∷ ops) before i e h = expressions_kept ops (before ++ expression_of before op ∷ []) i e (get_kept before (expression_of before op ∷ []) i e h)
+expressions_kept (op ∷ ops) before i e h = expressions_kept ops (before ++ expression_of before op ∷ []) i e (get_left before (expression_of before op ∷ []) i e h)
 
 -- so an instruction has its own among those of all
 expression_here : (program : Program) (op : bz.BzOp) (ops : List bz.BzOp) (before : List Expression) → expressions_after before (op ∷ ops) ≡ expressions program.bz

@@ -6,7 +6,7 @@ use Rattle.std.specs.List.{enumerate_from}
 use Rattle.std.specs.Str.{bytes_eq}
 use Rattle.std.proofs.lemmas.Slice.Eq.{bytes_eq-Decides}
 use Rattle.std.proofs.lemmas.List.{length-append, map-append}
-use Rattle.std.proofs.lemmas.Bool.{and_parts}
+use Rattle.std.proofs.lemmas.Bool.{and_parts, ltb-true}
 use Rattle.std.proofs.lemmas.Bool.Decides.{nat_tests}
 use Rattle.mltl_base.specs.declared.interval.Engine.{Engine}
 use Rattle.mltl_base.specs.declared.interval.Engine.TheVariants.{Ft, Pt}
@@ -106,9 +106,6 @@ pub record EnginesKnown (program : Program) (env : Env) : Type 0 where
 abbrev pub Within : Program → out.Out → Type 0
 Within program o = reports_within (length program.ft) (length program.pt) o ≡ true
 
-pub under : (a b : ℕ) → nat_lt a b ≡ true → a < b
-under a b h = grind (arith, nat_tests)
-
 abbrev one_asked : Engine → List ℕ → Formula → Asked
 one_asked engine name p = record { engine = engine; name = name; output = reports.formula p }
 
@@ -123,22 +120,22 @@ output_asks : (program : Program) (n k : ℕ) (p : Place) (o : out.Out) → p.ou
     → map (asked_over (columns_in program)) (asked_at (line_body n (output_line program k o)) p) ≡ asked_of_program program o ∷ []
 output_asks program n k p (out.TheVariants.Formula Ft i name) e h w =
     ap₂ (λ (x : List ℕ) (f : Formula). one_asked Ft x f ∷ []) (ap (λ (m : ℕ). name_of m (shown_label k name)) e ∙ name_kept k name)
-    (formula_by (columns_in program) p.values n (ft_reference program i) (plain (formula_at program Ft i)) (h.ft i (under i (length program.ft) w)))
+    (formula_by (columns_in program) p.values n (ft_reference program i) (plain (formula_at program Ft i)) (h.ft i (ltb-true i (length program.ft) w)))
 output_asks program n k p (out.TheVariants.Formula Pt i name) e h w =
     ap₂ (λ (x : List ℕ) (f : Formula). one_asked Pt x f ∷ []) (ap (λ (m : ℕ). name_of m (shown_label k name)) e ∙ name_kept k name)
-    (formula_by (columns_in program) p.values n (pt_reference program i) (plain (formula_at program Pt i)) (h.pt i (under i (length program.pt) w)))
+    (formula_by (columns_in program) p.values n (pt_reference program i) (plain (formula_at program Pt i)) (h.pt i (ltb-true i (length program.pt) w)))
 output_asks program n k p (out.TheVariants.Contract Ft i j name) e h w =
     let parts : (nat_lt i (length program.ft) ≡ true) × (nat_lt j (length program.ft) ≡ true) = and_parts (nat_lt i (length program.ft)) (nat_lt j (length program.ft)) w in
     ap (λ (x : List ℕ). two_asked Ft x (said program p n (ft_reference program i)) (said program p n (ft_reference program j)) ∷ []) (ap (λ (m : ℕ). name_of m (shown_label k name)) e ∙ name_kept k name)
     ∙ ap₂ (λ (f g : Formula). two_asked Ft name f g ∷ [])
-    (formula_by (columns_in program) p.values n (ft_reference program i) (plain (formula_at program Ft i)) (h.ft i (under i (length program.ft) parts.0)))
-    (formula_by (columns_in program) p.values n (ft_reference program j) (plain (formula_at program Ft j)) (h.ft j (under j (length program.ft) parts.1)))
+    (formula_by (columns_in program) p.values n (ft_reference program i) (plain (formula_at program Ft i)) (h.ft i (ltb-true i (length program.ft) parts.0)))
+    (formula_by (columns_in program) p.values n (ft_reference program j) (plain (formula_at program Ft j)) (h.ft j (ltb-true j (length program.ft) parts.1)))
 output_asks program n k p (out.TheVariants.Contract Pt i j name) e h w =
     let parts : (nat_lt i (length program.pt) ≡ true) × (nat_lt j (length program.pt) ≡ true) = and_parts (nat_lt i (length program.pt)) (nat_lt j (length program.pt)) w in
     ap (λ (x : List ℕ). two_asked Pt x (said program p n (pt_reference program i)) (said program p n (pt_reference program j)) ∷ []) (ap (λ (m : ℕ). name_of m (shown_label k name)) e ∙ name_kept k name)
     ∙ ap₂ (λ (f g : Formula). two_asked Pt name f g ∷ [])
-    (formula_by (columns_in program) p.values n (pt_reference program i) (plain (formula_at program Pt i)) (h.pt i (under i (length program.pt) parts.0)))
-    (formula_by (columns_in program) p.values n (pt_reference program j) (plain (formula_at program Pt j)) (h.pt j (under j (length program.pt) parts.1)))
+    (formula_by (columns_in program) p.values n (pt_reference program i) (plain (formula_at program Pt i)) (h.pt i (ltb-true i (length program.pt) parts.0)))
+    (formula_by (columns_in program) p.values n (pt_reference program j) (plain (formula_at program Pt j)) (h.pt j (ltb-true j (length program.pt) parts.1)))
 
 -- after an output nothing but its number is new
 pub after_output : (program : Program) (n k : ℕ) (o : out.Out) (p : Place) → ((place_after (line_body n (output_line program k o)) p).values ≡ p.values) × ((place_after (line_body n (output_line program k o)) p).outputs ≡ p.outputs + 1)

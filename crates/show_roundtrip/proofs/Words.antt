@@ -6,7 +6,7 @@ use Rattle.std.specs.List.{range_with_len, enumerate_from, list_all}
 use Rattle.std.specs.Str.{bytes_eq}
 use Rattle.std.proofs.lemmas.Slice.Eq.{bytes_eq-Decides}
 use Rattle.std.proofs.lemmas.Option.{same_Some}
-use Rattle.std.proofs.lemmas.Bool.{and_parts}
+use Rattle.std.proofs.lemmas.Bool.{and_parts, leb-true}
 use Rattle.std.proofs.lemmas.Bool.Decides.{nat_tests}
 use Rattle.std.proofs.lemmas.Fmt.{digits_decimal, length-decimal-le}
 use Rattle.std.proofs.lemmas.List.Sums.{count_by-le-length, AllPass-from_list_all}
@@ -30,7 +30,7 @@ use Rattle.obs_show.specs.Text.{signal_line, bz_form, bz_line, ft_form, ft_line,
 use Rattle.show_roundtrip.specs.Written.{IsName, IsNumeral}
 use Rattle.show_roundtrip.specs.Said.{HasToken, HasTokens, HasName, HasWords, HaveWords}
 use Rattle.show_roundtrip.specs.Named.{AreNamed, AreLabelled, HasNoNegative, HaveNoNegatives, HasOwnWords}
-use Rattle.show_roundtrip.proofs.Reading.{decimals, digits_in_word}
+use Rattle.show_roundtrip.proofs.Reading.{digits_in_word, decimals}
 use Rattle.show_roundtrip.proofs.Walk.{HaveOwnColumns, InColumn, in_column, HasKindFor, kind_for, HaveOperands, lines_from, put, put_is}
 use Rattle.show_roundtrip.proofs.Engines.{HaveFutureOperands, HavePastOperands}
 use Rattle.show_roundtrip.proofs.Whole.{CanBeSaid}
@@ -150,40 +150,30 @@ OptionTokens None = ⊤
 OptionTokens (Some f) = HasTokens f
 
 bz_tokens : (program : Program) (op : bz.BzOp) → HasAll program → OptionTokens (bz_form program op)
+bz_tokens program (bz.TheVariants.Column c) h = tt
+bz_tokens program (bz.TheVariants.IsTrue c) h = tt
+bz_tokens program (bz.TheVariants.Const n) h = tt
 bz_tokens program (bz.TheVariants.Neg a) h = bz_token program a h
-bz_tokens program (bz.TheVariants.Add a b) h = (bz_token program a h, bz_token program b h)
-bz_tokens program (bz.TheVariants.Sub a b) h = (bz_token program a h, bz_token program b h)
-bz_tokens program (bz.TheVariants.Mul a b) h = (bz_token program a h, bz_token program b h)
-bz_tokens program (bz.TheVariants.Div a b) h = (bz_token program a h, bz_token program b h)
-bz_tokens program (bz.TheVariants.Rem a b) h = (bz_token program a h, bz_token program b h)
-bz_tokens program (bz.TheVariants.Eq a b) h = (bz_token program a h, bz_token program b h)
-bz_tokens program (bz.TheVariants.Lt a b) h = (bz_token program a h, bz_token program b h)
-bz_tokens program (bz.TheVariants.Le a b) h = (bz_token program a h, bz_token program b h)
-bz_tokens program _ h = tt
+bz_tokens program _ h = (bz_token program _ h, bz_token program _ h)
 
 window_numbers : (i : Interval) → is_window i ≡ true → IsNumeral (pos i.lo) × IsNumeral (pos i.hi)
 window_numbers i h =
     let parts : (nat_le i.lo i.hi ≡ true) × (nat_le i.hi MAX_BOUND ≡ true) = and_parts (nat_le i.lo i.hi) (nat_le i.hi MAX_BOUND) h in
-    let low : i.lo ≤ i.hi = at_most i.lo i.hi parts.0 in
-    let high : i.hi ≤ MAX_BOUND = at_most i.hi MAX_BOUND parts.1 in
+    let low : i.lo ≤ i.hi = leb-true i.lo i.hi parts.0 in
+    let high : i.hi ≤ MAX_BOUND = leb-true i.hi MAX_BOUND parts.1 in
     (omega arith, omega arith)
-  where
-    at_most : (a b : ℕ) → nat_le a b ≡ true → a ≤ b
-    at_most a b h = grind (arith, nat_tests)
 
 ft_tokens : (program : Program) (op : ft.FtOp) → HasAll program → has_future_window op ≡ true → OptionTokens (ft_form program op)
-ft_tokens program ft.TheVariants.True h w = tt
-ft_tokens program (ft.TheVariants.Load a) h w = tt
 ft_tokens program (ft.TheVariants.Not g) h w = ft_token program g h
 ft_tokens program (ft.TheVariants.And l r) h w = (ft_token program l h, ft_token program r h)
 ft_tokens program (ft.TheVariants.Until l r window) h w = let n = window_numbers window w in (n.0, n.1, ft_token program l h, ft_token program r h)
+ft_tokens program _ h w = tt
 
 pt_tokens : (program : Program) (op : pt.PtOp) → HasAll program → has_past_window op ≡ true → OptionTokens (pt_form program op)
-pt_tokens program pt.TheVariants.True h w = tt
-pt_tokens program (pt.TheVariants.Load a) h w = tt
 pt_tokens program (pt.TheVariants.Not g) h w = pt_token program g h
 pt_tokens program (pt.TheVariants.And l r) h w = (pt_token program l h, pt_token program r h)
 pt_tokens program (pt.TheVariants.Since l r window) h w = let n = window_numbers window w in (n.0, n.1, pt_token program l h, pt_token program r h)
+pt_tokens program _ h w = tt
 
 put_words : (x : List ℕ) (o : Option Form) (ls : List Line) → IsName x → OptionTokens o → HaveWords ls → HaveWords (put x o ls)
 put_words x None ls name h g = g

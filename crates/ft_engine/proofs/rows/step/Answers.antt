@@ -9,7 +9,6 @@ use Rattle.ft_engine.specs.Scans.{DecidesUntil}
 use Rattle.mltl_base.specs.Seats.{part}
 use Rattle.ft_engine.specs.Queues.{queue_at}
 use Rattle.ft_engine.specs.Tables.{IsScanned, KnowsVerdicts, kleene_value}
-use Rattle.ft_engine.proofs.Going.{Written}
 use Rattle.ft_engine.proofs.Telling.{scan_kept, settled, settled_at_once, shown_operand}
 use Rattle.ft_engine.proofs.rows.step.Goals as goal
 
@@ -18,16 +17,13 @@ returns-in-Load-clause-verdicts g c = λ plan truth n old new told loads.
     let op : FtOp = Load c.in-Load.k in
     let t : KnowsVerdicts plan truth n op c.args.before.now c.args.earlier.now c.args.queue.now c.args.own.now old new = subst (λ (o : FtOp). KnowsVerdicts plan truth n o c.args.before.now c.args.earlier.now c.args.queue.now c.args.own.now old new) c.in-Load.is told in
     let i : ℕ = length c.args.before.now in
-    let e = c.write-in-Load.ensures in
     let seat = t.ready.planned.seated in
     let level : frontier_of c.args.queue.now.ring ≡ n = omega (arith, seat.0, seat.1, t.ready.paced.at_least, t.ready.paced.at_most) in
     let last : c.frontier-next.result ≡ n = c.frontier-next.ensures.frontier ∙ level in
-    let w : Written c.args.queue.now.ring c.args.own.now c.frontier-next.result c.truth.result c.write-in-Load.new.self c.write-in-Load.new.slots =
-    record { belongs = e.belongs; frontier = e.frontier; rises = e.rises; bounded = e.bounded; kept = e.kept; written = e.written } in
     record {
       verdicts =
           settled_at_once c.args.queue.now.ring c.args.own.now (old i) c.write-in-Load.new.self c.write-in-Load.new.slots (new i) (λ t. truth t c.in-Load.k) n c.frontier-next.result c.truth.result
-          t.longest (t.extends.each i) t.verdicts t.ready.paced.belongs w last level (loads c.in-Load.k c.truth.result c.in-Load.is c.truth.ensures);
+          t.longest (t.extends.each i) t.verdicts t.ready.paced.belongs c.write-in-Load.ensures.written last level (loads c.in-Load.k c.truth.result c.in-Load.is c.truth.ensures);
       scanned = subst (λ (o : FtOp). IsScanned o new record { ring = c.write-in-Load.new.self; reads_at = c.args.queue.now.reads_at; seat = c.args.queue.now.seat }) (sym c.in-Load.is) tt;
     }
 

@@ -22,7 +22,7 @@ returns-then-value-clause-finds g c =
     let seen = c.in-Run.ensures.seen in
     let ended : (k : ℕ) → at.reads_at ≤ k → p k ≡ None = λ k from. left.ends k (omega (arith, c.requires.ended)) in
     let holds : q at.seen ≡ Some true =
-    shown_run c.args.until.right.ring.now c.args.until.right.slots.now q at.seen c.in-Run.end c.in-Run.value right (omega (arith, c.requires.can_scan.right.kept)) seen at.seen (omega arith) seen.upward ∙ ap (λ (v : Bool). Some v) c.if-value.true in (
+    shown_run c.args.until.right.ring.now c.args.until.right.slots.now q at.seen c.in-Run.end c.in-Run.value right (omega (arith, c.requires.to_read.can_scan.right.kept)) seen at.seen (omega arith) seen.upward ∙ ap (λ (v : Bool). Some v) c.if-value.true in (
       left_unknown i p q c.args.from at.reads_at at.seen scan c.requires.earlier (omega arith) ended (λ e. cc),
       inl (ended at.reads_at (omega arith)),
     )

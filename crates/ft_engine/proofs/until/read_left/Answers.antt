@@ -19,7 +19,7 @@ returns-else-value-clause-finds g c =
     let further : at.reads_at ≤ last = omega (arith, seen.upward, c.min-last.ensures) in
     let within : last < at.seen = omega (arith, c.min-last.ensures) in
     let fails : (k : ℕ) → at.reads_at ≤ k → k ≤ last → p k ≡ Some false =
-    λ k from to. shown_run c.args.until.left.ring.now c.args.until.left.slots.now p at.reads_at c.in-Run.end c.in-Run.value left c.requires.can_scan.left.kept seen k from (omega (arith, c.min-last.ensures)) ∙ ap (λ (v : Bool). Some v) c.if-value.false in (
+    λ k from to. shown_run c.args.until.left.ring.now c.args.until.left.slots.now p at.reads_at c.in-Run.end c.in-Run.value left c.requires.to_read.can_scan.left.kept seen k from (omega (arith, c.min-last.ensures)) ∙ ap (λ (v : Bool). Some v) c.if-value.false in (
       λ x from to. left_false i p q c.args.from at.reads_at at.seen last scan further within fails x from (omega arith),
       left_false_scan i p q c.args.from at.reads_at at.seen last scan further within (last - c.from-lo.result + 1) (omega arith),
     )
@@ -50,4 +50,4 @@ returns-else-value-clause-by_runs g c =
     let taken = left_taken c.args.until at.reads_at at.seen c.in-Run.end last c.requires.earlier c.in-Run.ensures.seen.upward c.min-last.ensures c.in-Run.ensures.takes in
     let upward = c.in-Run.ensures.seen.upward in
     let further : at.reads_at ≤ last = omega (arith, c.min-last.ensures, c.requires.earlier) in
-    omega (arith, c.in-Run.ensures.step, taken, counts_less 1 (c.args.from + i.hi) (last - c.from-lo.result + 1 + i.hi) at.seen (omega (arith, c.requires.can_scan.reach)))
+    omega (arith, c.in-Run.ensures.step, taken, counts_less 1 (c.args.from + i.hi) (last - c.from-lo.result + 1 + i.hi) at.seen (omega (arith, c.requires.to_read.can_scan.reach)))

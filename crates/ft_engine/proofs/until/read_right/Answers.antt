@@ -27,8 +27,8 @@ returns-then-value-clause-finds g c =
     let here : Scan i p q c.args.from at.reads_at at.reads_at = subst (λ (n : ℕ). Scan i p q c.args.from at.reads_at n) (sym c.requires.level) scan in
     let seen = c.in-Run.ensures.seen in
     let holds : (k : ℕ) → at.reads_at ≤ k → k ≤ c.in-Run.end → q k ≡ Some true =
-    λ k from to. shown_run c.args.until.right.ring.now c.args.until.right.slots.now q at.reads_at c.in-Run.end c.in-Run.value right c.requires.can_scan.right.kept seen k from to ∙ ap (λ (v : Bool). Some v) c.if-value.true in (
-      λ x from to. right_true i p q c.args.from at.reads_at c.in-Run.end c.requires.can_scan.ordered here (omega arith) seen.upward holds x from (omega (arith, seen.upward)),
+    λ k from to. shown_run c.args.until.right.ring.now c.args.until.right.slots.now q at.reads_at c.in-Run.end c.in-Run.value right c.requires.to_read.can_scan.right.kept seen k from to ∙ ap (λ (v : Bool). Some v) c.if-value.true in (
+      λ x from to. right_true i p q c.args.from at.reads_at c.in-Run.end c.requires.to_read.can_scan.ordered here (omega arith) seen.upward holds x from (omega (arith, seen.upward)),
       fresh_scan i p q (c.in-Run.end - c.from-lo.result + 1) (c.in-Run.end + 1) (omega (arith, seen.upward)),
     )
 

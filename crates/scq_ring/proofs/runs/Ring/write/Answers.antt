@@ -18,13 +18,15 @@ returns-then-value-self g c =
     let begun = b.begun in
     let ahead = c.requires.ahead in
     record {
-      belongs = record { oldest_in = b.oldest_in; used_in = b.used_in; spans = b.spans; begun = omega arith; some_time = λ some. omega arith; alternate = b.alternate };
-      frontier = refl;
-      rises = omega arith;
-      bounded = omega arith;
+      written = record {
+        belongs = record { oldest_in = b.oldest_in; used_in = b.used_in; spans = b.spans; begun = omega arith; some_time = λ some. omega arith; alternate = b.alternate };
+        frontier = refl;
+        rises = omega arith;
+        bounded = omega arith;
+        kept = λ t from to. refl;
+        written = λ t from to. verdict_newest c.args.self.now c.args.slots.now t (omega arith) ∙ let same = c.if-value-self.true in grind (arith, common_steps);
+      };
       stays = λ some same. refl;
-      kept = λ t from to. refl;
-      written = λ t from to. verdict_newest c.args.self.now c.args.slots.now t (omega arith) ∙ let same = c.if-value-self.true in grind (arith, common_steps);
       step = c.tick.ensures.one_more;
     }
 
@@ -34,12 +36,14 @@ returns-else-value-self g c =
     let turned = c.turn.ensures.turned in
     let ring = c.args.self.now in
     record {
-      belongs = turned.belongs;
-      frontier = turned.frontier;
-      rises = turned.rises;
-      bounded = elim turned.bounded [ inl same ↦ omega arith | inr few ↦ omega arith ];
+      written = record {
+        belongs = turned.belongs;
+        frontier = turned.frontier;
+        rises = turned.rises;
+        bounded = elim turned.bounded [ inl same ↦ omega arith | inr few ↦ omega arith ];
+        kept = turned.kept;
+        written = turned.written;
+      };
       stays = λ some same. let begun = c.requires.belongs.some_time some in let newest = verdict_newest ring c.args.slots.now (ring.frontier - 1) (omega arith) in absurd (let other = c.if-value-self.false in grind (arith, common_steps));
-      kept = turned.kept;
-      written = turned.written;
       step = c.tick.ensures.one_more;
     }
