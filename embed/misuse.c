@@ -289,6 +289,99 @@ static void many_reports(void) {
     CHECK(held == 0);
 }
 
+/* Rows of an array, as many as there may be: those of the first example again and again. */
+enum { MANY_ROWS = 24 };
+static int64_t many_numbers[MANY_ROWS][2];
+
+/* Compares one call, which took rows up to `end` from `begin`, with single calls. */
+static void same_as_single(struct r2u2 *one, uint32_t style, size_t begin, size_t end, const struct r2u2_report *reports, size_t count) {
+    struct r2u2_report next = {0};
+    size_t told = 0;
+    for (size_t i = begin; i < end; i++) {
+        CHECK(take(one, many_numbers[i], 2) == R2U2_DONE);
+        while (r2u2_next(one, style, &next) == R2U2_DONE) {
+            CHECK(told < count && memcmp(&reports[told], &next, sizeof next) == 0);
+            told++;
+        }
+    }
+    CHECK(told == count && r2u2_rows(one) == end);
+}
+
+/* All rows by as few calls as the room allows: no call stops while there is room for what one row may bring. */
+static void rows_with_room(uint32_t style, size_t room) {
+    static const struct r2u2_report mark = {7, 8, 9};
+    struct r2u2 one = {0}, many = {0};
+    struct r2u2_report reports[4 * GRANT_REPORTS];
+    struct r2u2_batch batch = {5, 6};
+    struct r2u2_row_fault fault = {3, 4};
+    CHECK(open_grant(&one) == R2U2_DONE && open_grant(&many) == R2U2_DONE);
+    for (size_t i = 0; i < MANY_ROWS; i += batch.rows) {
+        for (size_t k = 0; k < 4 * GRANT_REPORTS; k++) reports[k] = mark;
+        CHECK(r2u2_row_many(&many, style, many_numbers[i], 2 * (MANY_ROWS - i), reports, room, &batch, &fault) == R2U2_DONE);
+        CHECK(batch.rows > 0 && batch.reports <= room && r2u2_rows(&many) == i + batch.rows);
+        CHECK(i + batch.rows == MANY_ROWS || room - batch.reports < GRANT_REPORTS);
+        same_as_single(&one, style, i, i + batch.rows, reports, batch.reports);
+        for (size_t k = batch.reports; k < 4 * GRANT_REPORTS; k++) CHECK(memcmp(&reports[k], &mark, sizeof mark) == 0);
+        if (batch.rows == 0) break;
+    }
+    CHECK(r2u2_row_many(&many, style, many_numbers[0], 0, reports, room, &batch, &fault) == R2U2_DONE);
+    CHECK(batch.rows == 0 && batch.reports == 0 && fault.why == 3 && fault.column == 4);
+    r2u2_close(&one);
+    r2u2_close(&many);
+}
+
+/* A row that isn't taken ends a batch before it, and is refused as a single one where it is the first. */
+static void rows_up_to_a_fault(void) {
+    struct r2u2 it = {0};
+    struct r2u2_report reports[4 * MANY_ROWS];
+    for (size_t bad = 0; bad < 6; bad++) {
+        struct r2u2_batch batch = {5, 6};
+        struct r2u2_row_fault fault = {3, 4};
+        int64_t numbers[6][2];
+        memcpy(numbers, ROWS, sizeof numbers);
+        numbers[bad][1] = 2;
+        CHECK(open_grant(&it) == R2U2_DONE);
+        if (bad > 0) {
+            CHECK(r2u2_row_many(&it, R2U2_EACH, numbers[0], 12, reports, 4 * MANY_ROWS, &batch, &fault) == R2U2_DONE);
+            CHECK(batch.rows == bad && fault.why == 3 && r2u2_rows(&it) == bad);
+            batch = (struct r2u2_batch){5, 6};
+        }
+        CHECK(r2u2_row_many(&it, R2U2_EACH, numbers[bad], 12 - 2 * bad, reports, 4 * MANY_ROWS, &batch, &fault) == R2U2_NOT_A_ROW);
+        CHECK(fault.why == R2U2_NOT_A_ROW && fault.column == 1 && batch.rows == 5 && batch.reports == 6);
+        CHECK(r2u2_row_many(&it, R2U2_EACH, ROWS[0], 1, reports, 4 * MANY_ROWS, &batch, &fault) == R2U2_NOT_A_ROW && fault.column == 1);
+        CHECK(r2u2_rows(&it) == bad);
+        r2u2_close(&it);
+    }
+    CHECK(held == 0);
+}
+
+/* Many rows by one call are those of single calls, with each room; with too little room none is taken, nor before reports that
+ * are left, nor of a monitor that isn't open. */
+static void many_rows(void) {
+    struct r2u2 it = {0};
+    struct r2u2_report reports[2 * GRANT_REPORTS] = {{7, 8, 9}};
+    struct r2u2_batch batch = {5, 6};
+    struct r2u2_row_fault fault = {3, 4};
+    for (size_t i = 0; i < MANY_ROWS; i++) memcpy(many_numbers[i], ROWS[i % 6], sizeof *many_numbers);
+    CHECK(r2u2_row_many(&it, R2U2_EACH, ROWS[0], 12, reports, 8, &batch, &fault) == R2U2_NOT_OPEN && fault.why == 3);
+    for (size_t room = GRANT_REPORTS; room <= 4 * GRANT_REPORTS; room++) {
+        rows_with_room(R2U2_EACH, room);
+        rows_with_room(R2U2_RUNS, room);
+    }
+    rows_up_to_a_fault();
+    CHECK(open_grant(&it) == R2U2_DONE);
+    long before = asked;
+    for (size_t room = 0; room < GRANT_REPORTS; room++)
+        CHECK(r2u2_row_many(&it, R2U2_EACH, ROWS[0], 12, reports, room, &batch, &fault) == R2U2_NO_ROOM);
+    CHECK(batch.rows == 5 && fault.why == 3 && reports[0].time == 7 && r2u2_rows(&it) == 0);
+    CHECK(take(&it, ROWS[1], 2) == R2U2_DONE);
+    CHECK(r2u2_row_many(&it, R2U2_EACH, ROWS[0], 12, reports, 8, &batch, &fault) == R2U2_REPORTS_LEFT);
+    CHECK(fault.why == R2U2_REPORTS_LEFT && batch.rows == 5 && reports[0].time == 7 && r2u2_rows(&it) == 1);
+    CHECK(asked == before);
+    r2u2_close(&it);
+    CHECK(held == 0);
+}
+
 /* The SHA-256 of the first example, as `sha256sum examples/embed/grant.bin` prints it. */
 static const uint8_t GRANT_DIGEST[R2U2_DIGEST_BYTES] = {
     0xed, 0xe8, 0x7a, 0xa9, 0xae, 0xa7, 0x94, 0xe4, 0x88, 0x1f, 0xd8, 0xc0, 0xb9, 0x7a, 0xf9, 0x55,
@@ -339,8 +432,8 @@ static void each_kind_of_fault(void) {
 
 /* Each number of r2u2.h has a text, and others have none. */
 static void texts(void) {
-    CHECK(strcmp(r2u2_code_text(R2U2_NO_REPORT), "no report") == 0 && strcmp(r2u2_code_text(10), "unknown") == 0);
-    CHECK(strcmp(r2u2_code_text(R2U2_DAMAGED), "damaged") == 0);
+    CHECK(strcmp(r2u2_code_text(R2U2_NO_REPORT), "no report") == 0 && strcmp(r2u2_code_text(11), "unknown") == 0);
+    CHECK(strcmp(r2u2_code_text(R2U2_DAMAGED), "damaged") == 0 && strcmp(r2u2_code_text(R2U2_NO_ROOM), "no room") == 0);
     CHECK(strcmp(r2u2_word_text(R2U2_VERIFIED), "verified") == 0 && strcmp(r2u2_word_text(5), "unknown") == 0);
     CHECK(strcmp(r2u2_fault_kind_text(R2U2_FAULT_TWICE), "name twice") == 0);
     CHECK(strcmp(r2u2_fault_kind_text(R2U2_FAULT_TWICE + 1), "unknown") == 0);
@@ -466,6 +559,28 @@ static void handed_over(void) {
 }
 
 /* The checked wrappers say of each bad argument that it is one, and else do what they wrap. */
+/* Rows by one call, behind tests: a monitor with one row and no report left stays as it is. */
+static void checked_rows(struct r2u2 *it) {
+    struct r2u2_report reports[GRANT_REPORTS];
+    struct r2u2_batch batch = {5, 6};
+    struct r2u2_row_fault fault = {3, 4};
+    int64_t numbers[2] = {0, 2};
+    CHECK(r2u2_checked_row_many(it, R2U2_EACH, NULL, 2, reports, 4, &batch, NULL) == R2U2_BAD_ARGUMENT);
+    CHECK(r2u2_checked_row_many(it, R2U2_EACH, numbers, 2, NULL, 4, &batch, NULL) == R2U2_BAD_ARGUMENT);
+    CHECK(r2u2_checked_row_many(it, R2U2_EACH, numbers, 2, reports, 4, NULL, NULL) == R2U2_BAD_ARGUMENT);
+    CHECK(r2u2_checked_row_many(it, 2, numbers, 2, reports, 4, &batch, NULL) == R2U2_BAD_ARGUMENT);
+    CHECK(r2u2_checked_row_many(it, R2U2_EACH, numbers, 2, (struct r2u2_report *)(void *)numbers, 1, &batch, NULL) == R2U2_BAD_ARGUMENT);
+    CHECK(r2u2_checked_row_many(it, R2U2_EACH, numbers, 2, reports, 4, (struct r2u2_batch *)(void *)numbers, NULL) == R2U2_BAD_ARGUMENT);
+    CHECK(r2u2_checked_row_many(it, R2U2_EACH, numbers, 2, reports, 4, (struct r2u2_batch *)(void *)reports, NULL) == R2U2_BAD_ARGUMENT);
+    CHECK(r2u2_checked_row_many(it, R2U2_EACH, numbers, 2, reports, 4, &batch, (struct r2u2_row_fault *)(void *)&batch) == R2U2_BAD_ARGUMENT);
+    CHECK(r2u2_checked_row_many(it, R2U2_EACH, numbers, 2, reports, 4, &batch, (struct r2u2_row_fault *)(void *)it) == R2U2_BAD_ARGUMENT);
+    CHECK(batch.rows == 5 && fault.why == 3 && it->at != NULL);
+    CHECK(r2u2_checked_row_many(it, R2U2_EACH, NULL, 0, NULL, 0, &batch, NULL) == R2U2_NO_ROOM && batch.rows == 5);
+    CHECK(r2u2_checked_row_many(it, R2U2_EACH, NULL, 0, reports, 4, &batch, &fault) == R2U2_DONE && batch.rows == 0 && fault.why == 3);
+    CHECK(r2u2_checked_row_many(it, R2U2_EACH, numbers, 2, reports, 4, &batch, &fault) == R2U2_NOT_A_ROW);
+    CHECK(fault.why == R2U2_NOT_A_ROW && fault.column == 1 && reports[0].time == 0);
+}
+
 static void wrappers(void) {
     struct r2u2 it = {0};
     struct r2u2_report report = {0};
@@ -500,6 +615,7 @@ static void wrappers(void) {
     CHECK(r2u2_checked_next_many(&it, 2, reports, 2, &told) == R2U2_BAD_ARGUMENT && told == 7);
     CHECK(r2u2_checked_next_many(&it, R2U2_EACH, NULL, 0, &told) == R2U2_DONE && told == 0);
     CHECK(r2u2_checked_next_many(&it, R2U2_EACH, reports, 2, &told) == R2U2_DONE && told == 0 && reports[1].word == 0);
+    checked_rows(&it);
     CHECK(r2u2_checked_name(&it, 0, NULL, 9) == 0 && r2u2_checked_name(&it, 0, name, 7) == 0 && name[0] == '.');
     CHECK(r2u2_checked_name(&it, 0, name, sizeof name) == 7 && memcmp(name, "granted", 8) == 0);
     CHECK(r2u2_checked_width(NULL) == 0 && r2u2_checked_outputs(NULL) == 0 && r2u2_checked_rows(NULL) == 0);
@@ -545,6 +661,7 @@ int main(int count, char **words) {
     names();
     queries();
     many_reports();
+    many_rows();
     digests();
     each_kind_of_fault();
     texts();

@@ -3,7 +3,7 @@
  * Each r2u2_checked_NAME returns R2U2_BAD_ARGUMENT, or 0 where it returns no code, where a pointer is null or isn't
  * aligned, a count is past what an object can have, a style isn't an r2u2_style, or arguments overlap; nothing is
  * called or written then. A null pointer with count 0 is an empty one, and a fault may be null where it isn't wanted.
- * What `fault`, `report` and `buffer` hold before doesn't matter, and names end with a zero byte, for which there has
+ * What `fault`, `report`, `batch` and `buffer` hold before doesn't matter, and names end with a zero byte, for which there has
  * to be room.
  *
  * Not tested, since C can't: that a struct was all zero at first, that it isn't used as two, that a pointer leads to
@@ -291,6 +291,53 @@ static inline uint32_t r2u2_checked_next_many(struct r2u2 *it, uint32_t style, s
         code = r2u2_next_many(it, style, (room != 0u) ? reports : none, room, &found);
         if (code == (uint32_t)R2U2_DONE) {
             *count = found;
+        }
+    }
+    return code;
+}
+
+/* Whether rows, their reports and what one call did can be stored, and no two of them overlap. */
+static inline bool r2u2_have_rows(const struct r2u2 *it, const int64_t *numbers, size_t count,
+                                  const struct r2u2_report *reports, size_t room, const struct r2u2_batch *batch) {
+    return (batch != NULL) && r2u2_have_room(it, reports, room, &batch->rows) &&
+           r2u2_is_there(numbers, count, sizeof *numbers) && r2u2_is_there(batch, 2u, sizeof batch->rows) &&
+           !r2u2_any_overlap(r2u2_span(it, 1u, sizeof *it), r2u2_span(numbers, count, sizeof *numbers),
+                             r2u2_span(reports, room, sizeof *reports)) &&
+           !r2u2_any_overlap(r2u2_span(batch, 1u, sizeof *batch), r2u2_span(numbers, count, sizeof *numbers),
+                             r2u2_span(reports, room, sizeof *reports)) &&
+           !r2u2_overlap(r2u2_span(it, 1u, sizeof *it), r2u2_span(batch, 1u, sizeof *batch));
+}
+
+/* Whether a fault is left out, or overlaps nothing of these. */
+static inline bool r2u2_fault_apart(const struct r2u2_row_fault *fault, struct r2u2_span a, struct r2u2_span b,
+                                    struct r2u2_span c, struct r2u2_span d) {
+    struct r2u2_span told = r2u2_span(fault, 1u, sizeof *fault);
+    return r2u2_may_be_there(fault, sizeof *fault, sizeof(uint32_t)) && !r2u2_overlap(told, a) &&
+           !r2u2_overlap(told, b) && !r2u2_overlap(told, c) && !r2u2_overlap(told, d);
+}
+
+/* Reports that weren't returned are all zero. */
+static inline uint32_t r2u2_checked_row_many(struct r2u2 *it, uint32_t style, const int64_t *numbers, size_t count,
+                                             struct r2u2_report *reports, size_t room, struct r2u2_batch *batch,
+                                             struct r2u2_row_fault *fault) {
+    static const int64_t no_numbers[1] = {0};
+    struct r2u2_report no_reports[1] = {{0, 0, 0}};
+    struct r2u2_row_fault found = {0, 0};
+    struct r2u2_batch done = {0u, 0u};
+    uint32_t code = R2U2_BAD_ARGUMENT;
+    if (r2u2_have_rows(it, numbers, count, reports, room, batch) && (style <= (uint32_t)R2U2_RUNS) &&
+        r2u2_fault_apart(fault, r2u2_span(it, 1u, sizeof *it), r2u2_span(numbers, count, sizeof *numbers),
+                         r2u2_span(reports, room, sizeof *reports), r2u2_span(batch, 1u, sizeof *batch))) {
+        if (room != 0u) {
+            (void)memset(reports, 0, room * sizeof *reports);
+        }
+        code = r2u2_row_many(it, style, (count != 0u) ? numbers : no_numbers, count, (room != 0u) ? reports : no_reports,
+                             room, &done, &found);
+        if (code == (uint32_t)R2U2_DONE) {
+            (void)memcpy(batch, &done, sizeof done);
+        }
+        if ((fault != NULL) && (found.why != 0u)) {
+            (void)memcpy(fault, &found, sizeof found);
         }
     }
     return code;

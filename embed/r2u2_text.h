@@ -13,8 +13,8 @@ static inline const char *r2u2_text_of(const char *const *texts, size_t count, u
 
 /* Returns the text of an r2u2_code. */
 static inline const char *r2u2_code_text(uint32_t code) {
-    static const char *const texts[10] = {"done",          "not open",     "already open",  "refused",   "out of memory",
-                                          "reports left",  "not a row",    "too many rows", "no report", "damaged"};
+    static const char *const texts[11] = {"done",         "not open",  "already open",  "refused",   "out of memory", "reports left",
+                                          "not a row",    "too many rows", "no report", "damaged",   "no room"};
     return r2u2_text_of(texts, sizeof texts / sizeof texts[0], code);
 }
 

@@ -20,7 +20,8 @@ static void (*running)(void);
 static struct r2u2 it;
 static struct r2u2_fault fault;
 static struct r2u2_row_fault row_fault;
-static struct r2u2_report report, reports[4];
+static struct r2u2_report report, reports[4], *row_reports;
+static struct r2u2_batch batch;
 static uint8_t digest[R2U2_DIGEST_BYTES];
 static uint8_t *program;
 static size_t count, told;
@@ -50,6 +51,7 @@ static void row(void) { code = r2u2_row(&it, numbers, width, &row_fault); }
 static void next(void) { code = r2u2_next(&it, R2U2_EACH, &report); }
 static void next_run(void) { code = r2u2_next(&it, R2U2_RUNS, &report); }
 static void next_many(void) { code = r2u2_next_many(&it, R2U2_EACH, reports, 4, &told); }
+static void row_many(void) { code = r2u2_row_many(&it, R2U2_EACH, numbers, width, row_reports, r2u2_most_reports(&it), &batch, &row_fault); }
 static void reset(void) { code = r2u2_reset(&it); }
 static void close_it(void) {
     r2u2_close(&it);
@@ -74,12 +76,12 @@ static size_t stack_of(void (*call)(void)) {
 }
 
 enum {
-    OPEN, OPEN_UNDER, OPEN_CHECKED, BYTES, WIDTH, OUTPUTS, ROWS, NAME, DELAY, STEPS, MOST_REPORTS, OUTPUT_KIND, SIGNALS, SIGNAL, VERSION, ROW, NEXT, NEXT_MANY, RESET, CLOSE, CALLS
+    OPEN, OPEN_UNDER, OPEN_CHECKED, BYTES, WIDTH, OUTPUTS, ROWS, NAME, DELAY, STEPS, MOST_REPORTS, OUTPUT_KIND, SIGNALS, SIGNAL, VERSION, ROW, NEXT, NEXT_MANY, ROW_MANY, RESET, CLOSE, CALLS
 };
 static const char *const NAMES[CALLS] = {
     "r2u2_open",  "r2u2_open_under", "r2u2_open_checked", "r2u2_bytes",  "r2u2_width",   "r2u2_outputs", "r2u2_rows", "r2u2_name",  "r2u2_delay",
     "r2u2_steps", "r2u2_most_reports", "r2u2_output_kind", "r2u2_signals", "r2u2_signal", "r2u2_version", "r2u2_row",
-    "r2u2_next",  "r2u2_next_many", "r2u2_reset", "r2u2_close"};
+    "r2u2_next",  "r2u2_next_many", "r2u2_row_many", "r2u2_reset", "r2u2_close"};
 static size_t first[CALLS], most[CALLS], base;
 static const char *path, *deepest[CALLS];
 
@@ -108,6 +110,8 @@ static void make_header(void) {
 }
 
 static void watch(void) {
+    row_reports = calloc(r2u2_most_reports(&it), sizeof *row_reports);
+    if (!row_reports) exit(fprintf(stderr, "stack: no memory for %s\n", path) > 0);
     measure(WIDTH, widths);
     measure(OUTPUTS, outputs);
     measure(ROWS, rows);
@@ -121,13 +125,15 @@ static void watch(void) {
     measure(VERSION, version);
     for (uint32_t i = 0; i < 200; i++) {
         for (uint32_t k = 0; k < width; k++) numbers[k] = (int64_t)(i * 7 + k * 3) % 5 == 0;
-        measure(ROW, row);
+        if (i % 3 == 2) measure(ROW_MANY, row_many);
+        else measure(ROW, row);
         if (code) exit(fprintf(stderr, "stack: row %u: code %u\n", i, code) > 0);
         do {
             measure(NEXT, i % 2 ? next : next_run);
             measure(NEXT_MANY, next_many);
         } while (told == 4);
     }
+    free(row_reports);
     measure(RESET, reset);
     measure(CLOSE, close_it);
 }

@@ -9,7 +9,7 @@
  *  - A struct r2u2 is all zero before its first call (`struct r2u2 m = {0};`). Only these calls write it. It may be
  *    moved to another address between two calls, but is never copied and then used as two.
  *  - Each pointer is aligned, isn't null, even where its count is 0, and leads to as many elements as its count says, in
- *    one object. Every byte of `fault`, `report`, `reports` and `buffer` was written before the call (`= {0}` serves).
+ *    one object. Every byte of `fault`, `report`, `reports`, `batch` and `buffer` was written before the call (`= {0}` serves).
  *  - What one call is given doesn't overlap, but that two pointers which are only read may be equal.
  *  - One struct is used by one thread at a time. It may pass to another thread between two calls, so that one opens it and
  *    another takes rows: a lock, the start or the join of a thread, or a sequentially consistent atomic orders the two.
@@ -61,7 +61,8 @@ enum r2u2_code {
     R2U2_NOT_A_ROW = 6,     /* the numbers aren't a row of the program */
     R2U2_TOO_MANY_ROWS = 7, /* 1,099,511,627,776 rows were taken */
     R2U2_NO_REPORT = 8,     /* all reports were given: take the next row */
-    R2U2_DAMAGED = 9        /* the program has another digest: its bytes were changed */
+    R2U2_DAMAGED = 9,       /* the program has another digest: its bytes were changed */
+    R2U2_NO_ROOM = 10       /* less room than the reports of one row may need */
 };
 
 /* Which fault a program or a header has: those of the bytes, then those of a program that they spell, then those of a
@@ -232,6 +233,23 @@ uint32_t r2u2_next(struct r2u2 *it, uint32_t style, struct r2u2_report *report);
  *
  * R2U2_DONE, also where there was none. R2U2_NOT_OPEN. */
 uint32_t r2u2_next_many(struct r2u2 *it, uint32_t style, struct r2u2_report *reports, size_t room, size_t *count);
+
+/* What one call took and wrote. */
+struct r2u2_batch {
+    size_t rows;    /* the rows that were taken */
+    size_t reports; /* the reports that were written */
+};
+
+/* Takes rows one after another, which `numbers` has without gaps, of r2u2_width numbers each, and returns the reports of each
+ * before it takes the next: what r2u2_row and r2u2_next do, called for each row and for each report. `batch` says how many
+ * rows and reports there were. It stops before a row whose reports might not fit into the room that is left, which is less than
+ * r2u2_most_reports, and before a row that can't be taken. Call it again with the rest of the numbers: where its first row can't
+ * be taken the code says why, as of r2u2_row. Of a program without columns each row needs a call of r2u2_row.
+ *
+ * R2U2_DONE: at least one row was taken, or there was none. R2U2_NOT_OPEN. R2U2_NO_ROOM: `room` is less than r2u2_most_reports.
+ * R2U2_REPORTS_LEFT, R2U2_NOT_A_ROW, R2U2_TOO_MANY_ROWS: `fault` says why the first row isn't taken. */
+uint32_t r2u2_row_many(struct r2u2 *it, uint32_t style, const int64_t *numbers, size_t count, struct r2u2_report *reports,
+                       size_t room, struct r2u2_batch *batch, struct r2u2_row_fault *fault);
 
 /* Resets the monitor to its state before the first row, as after it was opened. It keeps its program and its memory;
  * reports that were left are dropped.

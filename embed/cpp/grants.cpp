@@ -42,6 +42,16 @@ static bool is_checked(const std::vector<char> &program, const Row &row) {
            handle.row(row) == R2U2_DONE && handle.next_many(reports, 2, count) == R2U2_DONE && count == 1;
 }
 
+// Whether rows that come at once have the reports of single ones.
+static bool is_batched(const std::vector<char> &program) {
+    const std::array<std::int64_t, 6> numbers{{0, 1, 0, 1, 0, 2}};
+    mltl::Handle handle;
+    r2u2_report reports[8];
+    r2u2_batch batch{};
+    return handle.open(program) == R2U2_DONE && handle.row_many(numbers, reports, 8, batch) == R2U2_DONE && batch.rows == 2 &&
+           batch.reports == 2 && reports[1].time == 1 && handle.row_many(numbers, reports, 3, batch) == R2U2_NO_ROOM;
+}
+
 static int run(const char *name) {
     std::ifstream file(name, std::ios::binary);
     const std::vector<char> program{std::istreambuf_iterator<char>(file), {}};
@@ -50,7 +60,7 @@ static int run(const char *name) {
     mltl::Handle handle;
     mltl::Report report;
     if (!is_refused(monitor) || !is_described(monitor, program) || !is_closed(handle)) return 1;
-    if (!is_checked(program, rows[1])) return 1;
+    if (!is_checked(program, rows[1]) || !is_batched(program)) return 1;
     monitor.row(rows[1]);
     monitor.reset();
     if (monitor.rows() != 0 || monitor.next(report)) return 1;

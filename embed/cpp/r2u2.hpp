@@ -110,6 +110,13 @@ public:
         return r2u2_checked_next_many(&it, style, reports, room, &count);
     }
 
+    // Takes rows one after another, whose numbers are in one range, and stores their reports, as r2u2_row_many does.
+    template <class Numbers>
+    std::uint32_t row_many(const Numbers &numbers, r2u2_report *reports, std::size_t room, r2u2_batch &batch,
+                           r2u2_row_fault *fault = nullptr, r2u2_style style = R2U2_EACH) noexcept {
+        return r2u2_checked_row_many(&it, style, numbers.data(), numbers.size(), reports, room, &batch, fault);
+    }
+
     // Resets the monitor to its state before the first row, in the memory that it has.
     std::uint32_t reset() noexcept { return r2u2_checked_reset(&it); }
 

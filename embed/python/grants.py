@@ -2,6 +2,7 @@
 
 import hashlib
 import sys
+from array import array
 
 from r2u2 import DAMAGED, Error, Monitor, NOT_A_ROW, REFUSED, Signal, bytes_of, version
 
@@ -16,6 +17,12 @@ def refused(call, code):
         assert error.code == code, error.code
         return error
     raise AssertionError("no error")
+
+
+def monitor_reports(program):
+    """The reports of all rows, asked for one by one."""
+    with Monitor(program) as monitor:
+        return list(monitor.watch(ROWS))
 
 
 def main():
@@ -38,6 +45,14 @@ def main():
     with Monitor(program, digest=hashlib.sha256(program).digest()) as monitor:
         monitor.row(ROWS[1])
         assert [str(report) for report in monitor.all_reports()] == ["granted:0,T"] and monitor.all_reports() == []
+        monitor.reset()
+        numbers = array("q", [number for row in ROWS for number in row])
+        assert monitor.row_many(numbers[:6]) + monitor.row_many(memoryview(numbers)[6:]) == monitor_reports(program)
+        for bad, column in (([0, 2], 1), ([0], 1), ([0, 2**70], 1), ([0, 1, 0], 2)):
+            monitor.reset()
+            error = refused(lambda: monitor.row_many([*ROWS, bad, *ROWS]), NOT_A_ROW)
+            assert (error.column, error.taken, error.reports) == (column, 6, monitor_reports(program))
+        assert monitor.row_many([]) == [] and monitor.rows == 6 and len(monitor.row_many(ROWS, runs=True)) < 6
     refused(lambda: Monitor(program, digest=bytes(32)), DAMAGED)
     assert refused(lambda: Monitor(program[:-1]), REFUSED).fault.text == "short"
 

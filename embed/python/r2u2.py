@@ -13,17 +13,20 @@ import ctypes
 import functools
 import html
 import os
+import struct
 from collections.abc import Iterable, Iterator, Sequence
 from typing import Any, NamedTuple, Optional, Union
 
 WORDS = ("F", "T", "inactive", "invalid", "verified")
 FORMULA, CONTRACT = 1, 2
-DONE, NOT_OPEN, ALREADY_OPEN, REFUSED, NO_MEMORY, REPORTS_LEFT, NOT_A_ROW, TOO_MANY_ROWS, NO_REPORT, DAMAGED = range(10)
+DONE, NOT_OPEN, ALREADY_OPEN, REFUSED, NO_MEMORY, REPORTS_LEFT, NOT_A_ROW, TOO_MANY_ROWS, NO_REPORT, DAMAGED, NO_ROOM = range(11)
 CODES = ("done", "not open", "already open", "refused", "out of memory", "reports left", "not a row", "too many rows",
-         "no report", "damaged")
+         "no report", "damaged", "no room")
 DIGEST_BYTES = 32
-# How many reports one call returns at most.
-MANY = 64
+# How many reports one call returns at most, and how many more than one row may bring there is room for where it takes rows.
+MANY, MANY_OF_ROWS = 64, 1024
+# A report as the library writes it.
+REPORT = struct.Struct("=QII")
 
 
 class _Struct(ctypes.Structure):
@@ -45,13 +48,22 @@ class _Report(ctypes.Structure):
     _fields_ = [("time", ctypes.c_uint64), ("output", ctypes.c_uint32), ("word", ctypes.c_uint32)]
 
 
+class _Batch(ctypes.Structure):
+    _fields_ = [("rows", ctypes.c_size_t), ("reports", ctypes.c_size_t)]
+
+
 class Error(Exception):
     """A code above 0. `fault` has kind, part, place and text where a program was refused; `column` is that of a number
-    that doesn't fit."""
+    that doesn't fit. Where `row_many` took rows before the one at fault, `taken` is how many, and `reports` are theirs."""
 
     def __init__(self, code: int, text: str = "", fault: "Optional[Fault]" = None, column: Optional[int] = None) -> None:
         super().__init__(text or CODES[code])
         self.code, self.fault, self.column = code, fault, column
+        self.taken, self.reports = 0, list[Report]()
+
+    def _after(self, taken: int, reports: "list[Report]") -> "Error":
+        self.taken, self.reports = taken, reports
+        return self
 
 
 class Fault(NamedTuple):
@@ -89,6 +101,8 @@ class Table(dict[str, list[str]]):
         return f"<table><tr><th>output</th>{head}</tr>{''.join(rows)}</table>"
 
 
+_report = Report._make
+
 Row = Union[Sequence[int], "memoryview", Any]
 
 
@@ -108,6 +122,21 @@ def _numbers(row: Any) -> "tuple[Any, int]":
         if not -2**63 <= number < 2**63:
             raise Error(NOT_A_ROW, f"no number that fits in column {k + 1}", column=k)
     return (ctypes.c_int64 * max(len(numbers), 1))(*numbers), len(numbers)
+
+
+def _buffer_of_rows(rows: Any) -> "Optional[tuple[Any, int]]":
+    """The numbers of rows one after another as C has them, and their count, where they are a buffer."""
+    try:
+        view = memoryview(rows)
+    except TypeError:
+        return None
+    return _numbers(view.cast("B").cast("q") if view.ndim > 1 and view.c_contiguous and view.format in ("q", "l") else view)
+
+
+def _row_error(code: int, column: int) -> Error:
+    if code == NOT_A_ROW:
+        return Error(code, f"no number that fits in column {column + 1}", column=column)
+    return Error(code)
 
 
 def _unless_done(code: int, fault: _Fault) -> None:
@@ -158,6 +187,8 @@ def _loaded(path: str) -> Any:
         "row": (number, [it, ctypes.POINTER(ctypes.c_int64), size, ctypes.POINTER(_RowFault)]),
         "next": (number, [it, number, ctypes.POINTER(_Report)]),
         "next_many": (number, [it, number, ctypes.POINTER(_Report), size, ctypes.POINTER(size)]),
+        "row_many": (number, [it, number, ctypes.c_void_p, size, ctypes.POINTER(_Report), size,
+                              ctypes.POINTER(_Batch), ctypes.POINTER(_RowFault)]),
         "reset": (number, [it]),
         "close_struct": (None, [it]),
     }
@@ -197,6 +228,7 @@ class Monitor:
         self.delays = [self._call.r2u2_delay(self._it, k) for k in outputs]
         self.steps = self._call.r2u2_steps(self._it)
         self.most_reports = self._call.r2u2_most_reports(self._it)
+        self._room, self._batch = (_Report * (self.most_reports + MANY_OF_ROWS))(), _Batch()
         self.contracts = [self._call.r2u2_output_kind(self._it, k) == CONTRACT for k in outputs]
         self.signals = [self._signal(k) for k in range(self._call.r2u2_signals(self._it))]
 
@@ -220,10 +252,48 @@ class Monitor:
         row, count = _numbers(numbers)
         fault = self._fault
         code = self._call.r2u2_row(self._it, row, count, fault)
-        if code == NOT_A_ROW:
-            raise Error(code, f"no number that fits in column {fault.column + 1}", column=fault.column)
         if code:
-            raise Error(code)
+            raise _row_error(code, fault.column)
+
+    def row_many(self, rows: Any, runs: bool = False) -> list[Report]:
+        """Takes rows, and returns their reports, by as few calls of the library as it can. The rows are sequences, or one
+        buffer of 64-bit integers, as a two-dimensional array of numpy has them, or `array("q")` one after another."""
+        buffer = _buffer_of_rows(rows)
+        if buffer:
+            return self._take(*buffer, runs)
+        listed = [list(row) for row in rows]
+        flat = [number for row in listed for number in row]
+        if all(len(row) == self.width for row in listed) and -(2**63) <= min(flat, default=0) <= max(flat, default=0) < 2**63:
+            return self._take((ctypes.c_int64 * len(flat))(*flat), len(flat), runs)
+        return self._one_by_one(listed, runs)
+
+    def _take(self, numbers: Any, count: int, runs: bool) -> list[Report]:
+        found: list[Report] = []
+        call, it, room, batch, fault = self._call.r2u2_row_many, self._it, self._room, self._batch, self._fault
+        at = taken = 0
+        while at < count:
+            code = call(it, runs, ctypes.byref(numbers, 8 * at), count - at, room, len(room), batch, fault)
+            if code:
+                raise _row_error(code, fault.column)._after(taken, found)
+            found += self._told(batch.reports)
+            taken += batch.rows
+            at = taken * self.width
+        return found
+
+    def _one_by_one(self, rows: "list[list[int]]", runs: bool) -> list[Report]:
+        found: list[Report] = []
+        for taken, row in enumerate(rows):
+            try:
+                self.row(row)
+            except Error as error:
+                raise error._after(taken, found)
+            found += self.all_reports(runs)
+        return found
+
+    def _told(self, count: int) -> list[Report]:
+        """The first reports in the room."""
+        names, told = self.names, memoryview(self._room).cast("B")[: REPORT.size * count]
+        return [_report((names[output], time, WORDS[word])) for time, output, word in REPORT.iter_unpack(told)]
 
     def reports(self, runs: bool = False) -> Iterator[Report]:
         """Yields the reports of the rows so far that weren't returned yet: of each time, or of each longest run of one word."""
@@ -253,10 +323,8 @@ class Monitor:
     def table(self, rows: Iterable[Row]) -> Table:
         """Takes all rows, and returns each output's words from time 0 on, by name."""
         words = Table((name, []) for name in self.names)
-        for row in rows:
-            self.row(row)
-            for report in self.all_reports():
-                words[report.name].append(report.word)
+        for report in self.row_many(rows):
+            words[report.name].append(report.word)
         return words
 
     def reset(self) -> None:

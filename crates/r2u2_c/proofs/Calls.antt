@@ -44,7 +44,7 @@ Answers taken code before after =
     IfOk taken (λ _. (code ≡ DONE) × (after ≡ before)) × IfErr taken (λ fault. (after ≡ row_cause fault) × (code ≡ after.why))
 
 -- the code of a fault
-fault_code : (fault : RowFault) (code : ℕ) (after : RowWhy) → after ≡ row_cause fault → code ≡ after.why → code ≡ (row_cause fault).why
+pub fault_code : (fault : RowFault) (code : ℕ) (after : RowWhy) → after ≡ row_cause fault → code ≡ after.why → code ≡ (row_cause fault).why
 fault_code fault code after is e = e ∙ ap (λ (why : RowWhy). why.why) is
 
 -- a row that isn't taken

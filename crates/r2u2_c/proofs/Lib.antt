@@ -2,3 +2,4 @@ pub mod Calls
 pub mod Held
 pub mod Values
 mod Mirrors
+pub mod RowBatches

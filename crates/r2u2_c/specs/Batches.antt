@@ -1,8 +1,14 @@
 -- What one call of C that does the work of several returns.
 
-use Rattle.std.specs.Prelude.{ℕ, ◌≡◌, ◌≤◌, Option, Some, None, List, [], ◌∷◌, drop, length}
+use Rattle.std.specs.Prelude.{ℕ, zero, suc, ◌≡◌, ◌⊎◌, ◌-◌, ◌*◌, ◌<◌, ◌≤◌, max}
+use Rattle.std.specs.Prelude.{Option, Some, None, List, [], ◌∷◌, ◌++◌, drop, length, take}
 use Rattle.mltl_base.specs.declared.report.Style.{Style}
+use Rattle.mltl_base.specs.Atoms.{Row}
 use Rattle.r2u2_monitor.specs.declared.state.State.{State}
+use Rattle.r2u2_monitor.specs.Bursts.{OpensFew, most_reports}
+use Rattle.r2u2_monitor.specs.Monitoring.{IsDrained, TakesRow, program_of}
+use Rattle.r2u2_monitor.specs.RowFaults.{IsReady}
+use Rattle.r2u2_c.specs.declared.batches.Batch.{Batch}
 use Rattle.r2u2_c.specs.declared.report.Told.{Told}
 use Rattle.r2u2_c.specs.Exports.{TellsFirst}
 
@@ -22,3 +28,54 @@ TellsMany style told None after = ⊥
 pub record WritesFront (count : ℕ) (before after : List Told) : Type 0 where
   pub within : count ≤ length before
   pub rest : drop count after ≡ drop count before
+
+-- how many numbers of an array are a row of the monitor: its width, and one where it has no columns, so that no array
+-- has rows of no numbers
+abbrev pub row_size : State → ℕ
+row_size monitor = max (program_of monitor).width 1
+
+-- the first rows of an array, that many, each of `size` numbers
+abbrev pub rows_in : ℕ → ℕ → Row → List Row
+rows_in size zero numbers = []
+rows_in size (suc count) numbers = take size numbers ∷ rows_in size count (drop size numbers)
+
+-- the first row of an array
+abbrev pub first_row : Option State → Row → Row
+first_row (Some monitor) numbers = take (row_size monitor) numbers
+first_row None numbers = []
+
+-- what two calls do, for a row and for its reports: a row was taken, and then these reports were returned
+pub record TakesOne (style : Style) (row : Row) (told : List Told) (before after : State) : Type 0 where
+  pub ready : IsReady before row
+  pub taken : State
+  pub takes : TakesRow row before taken
+  pub few : OpensFew row before taken
+  pub each : TellsEach style told taken after
+
+-- what these calls do for one row after another: the reports are those of each row in turn
+abbrev pub TakesEach : Style → List Row → List Told → State → State → Type 0
+TakesEach style [] told before after = (told ≡ []) × (after ≡ before)
+TakesEach style (row ∷ more) told before after =
+    (here : List Told) × (rest : List Told) × (next : State) × (told ≡ here ++ rest)
+    × TakesOne style row here before next × TakesEach style more rest next after
+
+-- why no further row was taken: no number is left, a row's reports might not fit into the room, or it can't be taken
+abbrev pub EndsBefore : ℕ → ℕ → Row → ℕ → State → Type 0
+EndsBefore size most numbers room monitor =
+    (numbers ≡ []) ⊎ (room < most) ⊎ ¬ IsReady monitor (take size numbers)
+
+-- The first rows of the numbers were taken, and their reports are at the front of a list; the next row wasn't. Where there
+-- was room for more reports, none is left.
+pub record TakesRows (style : Style) (size most : ℕ) (numbers : Row) (batch : Batch) (old new : List Told)
+    (before after : State) : Type 0 where
+  pub each : TakesEach style (rows_in size batch.rows numbers) (take batch.reports new) before after
+  pub front : WritesFront batch.reports old new
+  pub drained : 0 < batch.rows → batch.reports < length old → IsDrained after
+  pub ends : EndsBefore size most (drop (batch.rows * size) numbers) (length old - batch.reports) after
+
+-- the open monitor has taken them
+abbrev pub TakesMany : Style → Row → Batch → List Told → List Told → Option State → Option State → Type 0
+TakesMany style numbers batch old new (Some before) (Some after) =
+    TakesRows style (row_size before) (most_reports (program_of before)) numbers batch old new before after
+TakesMany style numbers batch old new (Some before) None = ⊥
+TakesMany style numbers batch old new None after = ⊥

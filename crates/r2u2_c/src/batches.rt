@@ -11,6 +11,16 @@ use crate::report::{Told, next_of};
 use r2u2_monitor::Monitor;
 use std::alloc::Global;
 
+/// How much one call did, as C reads it.
+#[repr(C)]
+#[derive(Clone, Copy)]
+pub struct Batch {
+    /// How many rows it took.
+    pub rows: usize,
+    /// How many reports it wrote.
+    pub reports: usize,
+}
+
 /// Gives the next reports of the rows so far, as many as there is room for: those that `r2u2_next` gives one by one.
 /// `count` says how many; where they are fewer than there is room for, none is left.
 #[unsafe(no_mangle)]
@@ -42,7 +52,7 @@ pub extern "C" fn r2u2_next_many(
 }
 
 /// Writes the next reports to the front of a slice, and returns how many there were.
-fn fill(monitor: &mut Monitor, runs: u32, reports: &mut [Told]) -> usize
+pub(crate) fn fill(monitor: &mut Monitor, runs: u32, reports: &mut [Told]) -> usize
     ensures tells { TellsEach (style_of runs) (take result reports.new) monitor.old monitor.new }
     ensures front { WritesFront result reports.old reports.new }
     ensures drained { result < length reports.old → IsDrained monitor.new }

@@ -20,3 +20,5 @@ pub const TOO_MANY_ROWS: u32 = 7;
 pub const NO_REPORT: u32 = 8;
 /// The program doesn't have this digest, so its bytes were changed.
 pub const DAMAGED: u32 = 9;
+/// There is less room than the reports of one row may need.
+pub const NO_ROOM: u32 = 10;

@@ -111,7 +111,7 @@ pub extern "C" fn r2u2_row(it: &mut R2u2, alloc: Global, fields: &[i64], why: &m
 }
 
 /// Tells whether a row was taken, and why not.
-fn tell_taken(taken: Result<(), RowFault>, why: &mut RowWhy) -> u32
+pub(crate) fn tell_taken(taken: Result<(), RowFault>, why: &mut RowWhy) -> u32
     ensures done { IfOk taken (λ _. (result ≡ DONE) × (why.new ≡ why.old)) }
     ensures fault { IfErr taken (λ fault. (why.new ≡ row_cause fault) × (result ≡ why.new.why)) }
 {

@@ -19,10 +19,11 @@ mod names;
 mod opened;
 mod queries;
 mod report;
+mod row_batches;
 mod row_why;
 pub mod version;
 
-pub use batches::r2u2_next_many;
+pub use batches::{Batch, r2u2_next_many};
 pub use bytes::r2u2_bytes;
 pub use c_monitor::R2u2;
 pub use digests::{ProgramDigest, r2u2_open_checked};
@@ -34,4 +35,5 @@ pub use queries::{
     r2u2_signal, r2u2_signals, r2u2_steps, r2u2_version, r2u2_width,
 };
 pub use report::Told;
+pub use row_batches::r2u2_row_many;
 pub use row_why::RowWhy;
