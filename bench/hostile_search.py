@@ -5,11 +5,12 @@
     bench/hostile_search.py build/c2po --bytes 100000 --seed 7     over texts of 100 KB, from another start
     bench/hostile_search.py build/c2po --for memory --keep worst.c2po
 
-A text has definitions over sets of members. Each is a quantifier over a set, with others within it, over a body that picks
-fields, adds numbers and denies; it weighs less than 65,536, so that the text is legal. The search begins with shapes at
-random, changes one number of a shape at a time, and goes on with what takes more. Each text that takes more than all before
-is printed: its seconds of user time, the peak of memory in MB, the code of the run, and its shape. A run ends after
---seconds of user time. Code 8 is out of memory.
+A text has definitions over sets of members, which are numbers, signals or values of structs. Each is a quantifier over a set,
+with others within it, over a body that compares numbers, picks fields, adds and denies; it weighs less than 65,536, so that
+the text is legal. Some are outputs, as many as the limit of their weights lets be. The search begins with shapes at random,
+changes one number of a shape at a time, and goes on with what takes more. Each text that takes more than all before is
+printed: its seconds of user time, the peak of memory in MB, the code of the run, and its shape. A run ends after --seconds
+of user time. Code 8 is out of memory.
 
 The status is 0, and 1 where a run ended otherwise than with code 0: each text is legal.
 """
@@ -33,27 +34,47 @@ ROOM = 8 << 30
 @dataclasses.dataclass(frozen=True)
 class Shape:
     """The numbers that make up a text."""
-    members: int = 40       # of the set that is quantified over
+    members: int = 40       # of each set that is quantified over
+    distinct: int = 1       # how many of them differ from one another
+    sets: int = 1           # sets of the same members, each begun at another one
     nesting: int = 2        # quantifiers within one another
-    counted: int = 0        # the innermost ones of these count
+    numeric: int = 0        # the outermost ones of these go over numbers
+    counted: int = 0        # the innermost ones count
     threshold: int = 1      # the number of those that count
     fields: int = 2         # of each struct
     depth: int = 1          # structs within one another, which the body picks through
+    uses: int = 1           # how often the body does so
     sums: int = 1           # numbers in the body that are added up
     denials: int = 1        # `!` before the body
     labels: int = 1         # bytes of names
     linked: int = 0         # each definition whose number this divides names the one before it; 0 for none
+    outputs: int = 0        # outputs, each of a definition
 
 
-LEAST = {'members': 1, 'nesting': 1, 'counted': 0, 'threshold': 0, 'fields': 1, 'depth': 0, 'sums': 0, 'denials': 0,
-         'labels': 1, 'linked': 0}
-MOST = {'members': 400, 'nesting': 40, 'counted': 40, 'threshold': 200, 'fields': 100, 'depth': 40, 'sums': 60, 'denials': 60,
-        'labels': 64, 'linked': 50}
+LEAST = {'members': 1, 'distinct': 1, 'sets': 1, 'nesting': 1, 'numeric': 0, 'counted': 0, 'threshold': 0, 'fields': 1, 'depth': 0,
+         'uses': 1, 'sums': 0, 'denials': 0, 'labels': 1, 'linked': 0, 'outputs': 0}
+MOST = {'members': 400, 'distinct': 400, 'sets': 100, 'nesting': 40, 'numeric': 40, 'counted': 40, 'threshold': 200, 'fields': 100,
+        'depth': 400, 'uses': 40, 'sums': 60, 'denials': 60, 'labels': 60, 'linked': 50, 'outputs': 60_000}
+
+
+def numbered_levels(shape):
+    """How many quantifiers go over numbers."""
+    return min(shape.numeric, shape.nesting)
+
+
+def compares(shape):
+    return bool(numbered_levels(shape) or shape.sums)
+
+
+def uses(shape):
+    """How often the body uses the innermost variable, where that isn't a number."""
+    return shape.uses if numbered_levels(shape) < shape.nesting else 0
 
 
 def body_weight(shape):
-    """The weight of one body: denials, a picked field, and a comparison of a sum and its connective where there is one."""
-    return shape.denials + 1 + (2 * shape.sums + 4 if shape.sums else 0)
+    """The weight of one body: denials, a comparison of a sum, the uses of a variable, and what joins these."""
+    parts = compares(shape) + uses(shape)
+    return shape.denials + (2 * shape.sums + 3) * compares(shape) + uses(shape) + parts - 1
 
 
 def weight(shape):
@@ -70,51 +91,98 @@ def weight(shape):
 
 def tokens(shape):
     """About how many tokens a definition has."""
-    return shape.nesting * 10 + 2 * shape.depth + 2 * shape.sums + shape.denials + 12
+    return shape.nesting * 10 + uses(shape) * (2 * shape.depth + 2) + 2 * shape.sums + shape.denials + 20
 
 
 def is_legal(shape):
-    return weight(shape) <= MOST_WEIGHT and tokens(shape) <= MOST_TOKENS and shape.members <= MOST_TOKENS // 2 - 5
+    light = weight(shape) <= MOST_WEIGHT and weight(shape) * shape.outputs <= MOST_WEIGHT
+    return light and tokens(shape) <= MOST_TOKENS and max(shape.members, shape.distinct) <= MOST_TOKENS // 2 - 5
+
+
+def sets_of(shape, letter, values):
+    """The sets of the members, each begun at another one."""
+    pieces = []
+    for number in range(shape.sets):
+        members = [values[(number + k) % len(values)] for k in range(shape.members)]
+        pieces.append('DEFINE %s%d := {%s};\n' % (letter, number, ', '.join(members)))
+    return ''.join(pieces)
+
+
+def structs(shape):
+    """Structs within one another, and the different values of the outermost one."""
+    kind, value, others = 'bool', 'p', ', p' * (shape.fields - 1)
+    pieces = []
+    for level in range(shape.depth):
+        names = ''.join(' f%d: bool;' % k for k in range(1, shape.fields))
+        pieces.append('STRUCT t%d: { f0: %s;%s };\n' % (level, kind, names))
+        if level < shape.depth - 1:
+            pieces.append('DEFINE v%d := t%d(%s%s);\n' % (level, level, value, others))
+            kind, value = 't%d' % level, 'v%d' % level
+    top = shape.depth - 1
+    pieces += ['DEFINE e%d := t%d(%s%s);\n' % (k, top, value, others) for k in range(shape.distinct)]
+    return ''.join(pieces)
 
 
 def head(shape):
-    """Signals, structs within one another, and the set of those that are quantified over."""
+    """Signals, structs, and the sets of what is quantified over."""
     pieces = ['INPUT p: bool; x: int;\nSTRUCT t: { a: bool; b: bool; c: bool; };\n']
-    kind, value = 'bool', 'p'
-    for level in range(shape.depth):
-        others = ''.join(' f%d: bool;' % k for k in range(1, shape.fields))
-        pieces.append('STRUCT t%d: { f0: %s;%s };\n' % (level, kind, others))
-        pieces.append('DEFINE v%d := t%d(%s%s);\n' % (level, level, value, ', p' * (shape.fields - 1)))
-        kind, value = 't%d' % level, 'v%d' % level
-    return ''.join(pieces) + 'DEFINE s := {%s};\n' % ', '.join([value] * shape.members)
+    if shape.depth:
+        pieces.append(structs(shape))
+    else:
+        pieces += ['INPUT e%d: bool;\n' % k for k in range(shape.distinct)]
+    pieces.append(sets_of(shape, 's', ['e%d' % k for k in range(shape.distinct)]))
+    if numbered_levels(shape):
+        pieces.append(sets_of(shape, 'n', [str(k) for k in range(shape.distinct)]))
+    return ''.join(pieces)
+
+
+def variable(shape, level):
+    """The variable of a quantifier, counted from the outermost one."""
+    return 'w' + ('v%d' % level).ljust(shape.labels, 'w')
+
+
+def body(shape):
+    numeric = numbered_levels(shape)
+    parts = [variable(shape, shape.nesting - 1) + '.f0' * shape.depth] * uses(shape)
+    if compares(shape):
+        left = variable(shape, numeric - 1) if numeric else 'x'
+        right = variable(shape, 0) if numeric > 1 else '0'
+        parts.append('%s%s > %s' % (left, ' + 1' * shape.sums, right))
+    return '!' * shape.denials + '(%s)' % ' || '.join(parts)
+
+
+def name_of(shape, number):
+    return ('d%d' % number).ljust(shape.labels, '_')
 
 
 def definition(shape, number):
-    name = ('d%d' % number).ljust(shape.labels, '_')
-    variable = ('v%d' % (shape.nesting - 1)).ljust(shape.labels, 'w')
-    text = 'w%s' % variable + '.f0' * shape.depth
-    if shape.sums:
-        text = '(%s || x%s > 0)' % (text, ' + 1' * shape.sums)
-    text = '!' * shape.denials + text
-    for level in range(shape.nesting):
-        own = 'w' + ('v%d' % (shape.nesting - 1 - level)).ljust(shape.labels, 'w')
-        if level < shape.counted:
-            text = 'foratmost(%s: s, %d)(%s)' % (own, shape.threshold, text)
+    text = body(shape)
+    for level in reversed(range(shape.nesting)):
+        own = variable(shape, level)
+        kind = 'n' if level < numbered_levels(shape) else 's'
+        members = '%s%d' % (kind, (number + level) % shape.sets)
+        if shape.nesting - 1 - level < shape.counted:
+            text = 'foratmost(%s: %s, %d)(%s)' % (own, members, shape.threshold, text)
         else:
-            text = 'for%s(%s: s)(%s)' % (('each', 'some')[level % 2], own, text)
+            text = 'for%s(%s: %s)(%s)' % (('each', 'some')[level % 2], own, members, text)
     if shape.linked and number and number % shape.linked == 0:
-        text = 't(p, %s, %s).a' % (('d%d' % (number - 1)).ljust(shape.labels, '_'), text)
-    return 'DEFINE %s := %s;\n' % (name, text)
+        text = 't(p, %s, %s).a' % (name_of(shape, number - 1), text)
+    return 'DEFINE %s := %s;\n' % (name_of(shape, number), text)
 
 
 def text_of(shape, size):
+    """As many definitions as so many bytes hold, the first of which are outputs."""
     first, pieces, number = head(shape), [], 0
     room = size - len(first) - len('FTSPEC p;\n')
-    while len(piece := definition(shape, number)) <= room:
+    while True:
+        piece = definition(shape, number)
+        if number < shape.outputs:
+            piece += 'FTSPEC %s;\n' % name_of(shape, number)
+        if len(piece) > room:
+            return first + ''.join(pieces) + 'FTSPEC p;\n'
         pieces.append(piece)
         room -= len(piece)
         number += 1
-    return first + ''.join(pieces) + 'FTSPEC p;\n'
 
 
 def changed(shape, chance):
@@ -158,6 +226,9 @@ def climb(asked, folder):
         while missed < asked.patience and time.monotonic() < end:
             other = changed(shape, chance) if here >= 0 else shape
             text = text_of(other, asked.bytes)
+            if len(text) > asked.bytes:
+                missed += 1
+                continue
             taken = taken_by(asked, folder, text)
             score = taken.peak if asked.goal == 'memory' else taken.user
             odd = odd or taken.status != 0

@@ -122,6 +122,13 @@ def different_picks(definitions):
     return '%s%sw := {%s};\n%sFTSPEC p;\n' % (DEEP, structs, members(60, 'e#'), users)
 
 
+def output_picks():
+    """One output, over so many numbers and structs as its weight lets be, whose bodies are chains of picked fields."""
+    structs = ''.join('e%d := t%d(d%d);\n' % (k, DEEPEST, DEEPEST - 1) for k in range(160))
+    sets = 'w := {%s};\nz := {%s};\n' % (members(160, 'e#'), members(200, '#'))
+    return '%s%s%sFTSPEC foreach(n: z)(foreach(v: w)(v%s));\n' % (DEEP, structs, sets, '.f' * (DEEPEST + 1))
+
+
 def declared(names):
     """Signals of these names, as many to an item as its tokens allow."""
     lists = (','.join(names[k:k + 500]) for k in range(0, len(names), 500))
@@ -149,6 +156,7 @@ TEXTS = [
     filled('number-picks', 'chains of picked fields in bodies over pairs of numbers', DEEP,
            numbered('DEFINE a#:=foreach(n:s)(foreach(v:u)(n>0||v%s));\n' % ('.f' * (DEEPEST + 1))), 'FTSPEC p;\n'),
     Text('different-picks', 'the same over different structs, 8 definitions in 28 KB', lambda: different_picks(8)),
+    Text('output-picks', 'such a chain in the 32,000 bodies of one output, in 28 KB', output_picks),
     filled('single', 'quantifiers over one member each, within one over pairs', LARGEST + 'DEFINE\n', chained, 'FTSPEC p;\n'),
     Text('nested-picks', '23 quantifiers within one another over picked fields', lambda: picked_within(23)),
     Text('spacecraft', '27 requirements over pairs of 78 spacecraft', lambda: spacecraft(78, 27)),

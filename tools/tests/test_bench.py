@@ -11,6 +11,9 @@ from support import ROOT, Case, program
 
 SPECS = 40
 BENCH = ROOT / "bench"
+sys.path.insert(0, str(BENCH))
+
+import hostile_search
 
 
 class Plain(Case):
@@ -55,3 +58,13 @@ class Runner(Case):
             )
             self.assertEqual((ran.returncode, "DIFFER" in ran.stdout), (status, bool(status)), ran.stdout)
             self.assertEqual(list(self.folder.glob("bench-*")), [])
+
+
+class Search(Case):
+    def test_shapes_are_legal(self):
+        out = self.folder / "spec.obs"
+        for seed in range(SPECS):
+            shape = hostile_search.at_random(random.Random(seed))
+            text = hostile_search.text_of(shape, 20_000)
+            spec = self.file("spec.c2po", text)
+            subprocess.run([program("c2po"), "-o", str(out), str(spec)], check=True)

@@ -3,6 +3,7 @@ pub mod Gates
 pub mod Growing
 pub mod Heading
 pub mod Joining
+pub mod Lightness
 pub mod Naming
 pub mod ReadValues
 pub mod Signalling

@@ -6,6 +6,7 @@ use Rattle.std.proofs.Math.ListN.{drop_of_length-le}
 use Rattle.std.proofs.lemmas.List.{append-nil, length-append, length-map}
 use Rattle.std.proofs.lemmas.Option.{get_or_from_slice_get, slice_get-map, slice_get_within}
 use Rattle.mltl_base.specs.declared.interval.Engine.{Engine}
+use Rattle.mltl_base.specs.declared.limits.TheConstants.{MAX_SIGNALS}
 use Rattle.mltl_base.specs.declared.signal.Signal.{Signal}
 use Rattle.mltl_base.specs.Formula.{Formula}
 use Rattle.mltl_base.specs.Reports as output
@@ -26,6 +27,7 @@ use Rattle.c2po_types.specs.FirstFault.{first_fault}
 use Rattle.c2po_types.specs.Outputs.{Place, before, name_of, values_after, asked_at, place_after, asked_from, outputs_of, with_signals}
 use Rattle.c2po_types.specs.Signals.{body_signals, signals_of}
 use Rattle.c2po_types.proofs.Faultless.{faultless-tensed}
+use Rattle.c2po_types.proofs.OwnNames.{few_signals}
 use Rattle.c2po_types.proofs.Turns.{drop-first}
 use Rattle.c2po_unfold.specs.Environment.{Env, declare, value, signal_value, value_of}
 use Rattle.c2po_unfold.specs.Values.{formula_of}
@@ -33,6 +35,7 @@ use Rattle.set_expand.specs.declared.items.Unfolded.{Unfolded}
 use Rattle.set_expand.specs.declared.names.Declared.{Declared}
 use Rattle.set_expand.specs.declared.names.Entry.{Entry}
 use Rattle.set_expand.specs.declared.names.Entry.TheVariants as entry
+use Rattle.set_expand.specs.Light.{AreLight, IsLightItem}
 use Rattle.set_expand.specs.Names.{EntryBelow, SignalsBelow, env_now, envs_of}
 use Rattle.set_expand.specs.Nodes.{HaveNodes, IsMore}
 use Rattle.set_expand.specs.Unfolded.{AskFor, Leaves, StandsAt}
@@ -156,9 +159,9 @@ nothing-yet u names signals nodes outs = record {
 }
 
 -- all items are left then
-pub leaves-all : (u : Unfolded) (all : List ItemShape) → StandsAt u before [] → Leaves u all all
+pub leaves-all : (u : Unfolded) (all : List ItemShape) → StandsAt u before [] → AreLight all before → Leaves u all all
 unfolding outputs_of
-leaves-all u all stands = record { place = before; told = []; stands = stands; outputs = refl; signals = omega arith }
+leaves-all u all stands light = record { place = before; told = []; stands = stands; outputs = refl; signals = omega arith; light = light }
 
 -- one item less is left
 pub leaves-less : (u v : Unfolded) (i : ItemShape) (left all : List ItemShape) → (h : Leaves u (i ∷ left) all)
@@ -170,7 +173,17 @@ leaves-less u v i left all h stands = record {
   stands = stands;
   outputs = append_assoc h.told (asked_at i.body h.place) (asked_from left (place_after i.body h.place)) ∙ h.outputs;
   signals = omega (arith, h.signals, length-append (body_signals i.body) (signals_of left));
+  light = h.light.1;
 }
+
+-- the first of the items that are left is light, and its signals are within their limit
+pub first-light : (u : Unfolded) (i : ItemShape) (left all : List ItemShape) → Leaves u (i ∷ left) all → IsLightItem (env_now u.names) i.body
+first-light u i left all h = subst (λ env. IsLightItem env i.body) (sym h.stands.values) h.light.0
+
+pub first-few : (u : Unfolded) (i : ItemShape) (left all : List ItemShape) → Leaves u (i ∷ left) all → first_fault all ≡ None
+    → u.signals + length (body_signals i.body) ≤ MAX_SIGNALS
+first-few u i left all h faultless =
+    omega (arith, h.stands.numbered, h.signals, few_signals all faultless, length-append (body_signals i.body) (signals_of left))
 
 -- the items that are left in a loop over them
 pub left-first : (items : List Item) (n : ℕ) (item : Item) → n < length items → item ≡ get_or items n item

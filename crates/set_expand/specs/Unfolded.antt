@@ -10,6 +10,7 @@ use Rattle.c2po_ast.specs.ItemShape.{BodyShape, ItemShape}
 use Rattle.c2po_types.specs.Outputs.{Place, place_after, asked_at, asked_from, outputs_of}
 use Rattle.c2po_types.specs.Signals.{signals_of}
 use Rattle.set_expand.specs.declared.items.Unfolded.{Unfolded}
+use Rattle.set_expand.specs.Light.{AreLight}
 use Rattle.set_expand.specs.Names.{SignalsBelow, env_now}
 use Rattle.set_expand.specs.Nodes.{HaveNodes}
 
@@ -34,10 +35,11 @@ abbrev pub Puts : {E : Type 0} → BodyShape → Unfolded → Result Unfolded E 
 Puts body old result = (place : Place) (told : List Asked) → StandsAt old place told
     → IfOk result (λ new. StandsAt new (place_after body place) (told ++ asked_at body place))
 
--- of all items, this many are left to be unfolded
+-- of all items, these are left to be unfolded, each of which is light
 pub record Leaves (u : Unfolded) (left all : List ItemShape) : Type 0 where
   pub place : Place
   pub told : List Asked
   pub stands : StandsAt u place told
   pub outputs : told ++ asked_from left place ≡ outputs_of all
   pub signals : place.signals + length (signals_of left) ≡ length (signals_of all)
+  pub light : AreLight left place

@@ -1,6 +1,6 @@
 //! Counting quantifiers: their gates as nodes.
 
-ghost use Rattle.std.specs.Prelude.{◌≡◌, ◌+◌, ◌<◌, ◌≤◌, ℕ, true, List as Seq, Some, length, map, slice_get, IfOk, IfErr, OnOk};
+ghost use Rattle.std.specs.Prelude.{◌≡◌, ◌≤◌, ℕ, List as Seq, Some, length, map, slice_get, IfOk, OnOk};
 ghost use Rattle.mltl_base.specs.declared.limits.TheConstants.{MAX_WEIGHT};
 ghost use Rattle.mltl_base.specs.Formula.{Formula};
 ghost use Rattle.count_sets.specs.Counting.{Counted, counting};
@@ -13,24 +13,11 @@ ghost use Rattle.set_expand.specs.Nodes.{AreFormulas, HaveFormulas, IsMore};
 use crate::names::Names;
 use c2po_nodes::{NodeList, Plain};
 use count_sets::{Gate, network};
-use mltl_base::limits::MAX_WEIGHT;
 use mltl_base::{CountOp, LogicOp};
 use std::alloc::{AllocError, Global};
 
-/// Whether a counting quantifier over `n` bodies weighs no more than an output may.
-fn is_light(n: usize, number: u64) -> bool
-    ensures { result ≡ true → counting_weight n number ≤ MAX_WEIGHT }
-{
-    if n > MAX_WEIGHT as usize {
-        return false;
-    }
-    let bodies = n as u64;
-    2 * bodies * (number.min(bodies) + 1) + 4 <= u64::from(MAX_WEIGHT)
-}
-
 impl<'a> Names<'a> {
-    /// The node of a counting quantifier over the nodes of its bodies. Above the weight that an output may have, which
-    /// the check has refused, it is out of memory.
+    /// The node of a counting quantifier over the nodes of its bodies.
     pub(crate) fn gates(
         &self,
         nodes: &mut NodeList,
@@ -40,15 +27,13 @@ impl<'a> Names<'a> {
         bodies: &[u32],
     ) -> Result<u32, AllocError>
         requires some { 1 ≤ length bodies.now }
+        requires light { counting_weight (length bodies.now) number ≤ MAX_WEIGHT }
         requires formulas { AreFormulas nodes.old bodies.now }
         ensures more { OnOk result (IsMore self.now nodes.old nodes.new) }
         ensures has { (ps : Seq Formula) → HaveFormulas nodes.old bodies.now ps
             → IfOk result (λ n. Has nodes.new n
             (formula (counted_formula ps (counting op (length ps) number)))) }
     {
-        if !is_light(bodies.len(), number) {
-            return Err(AllocError);
-        }
         let count = bodies.len() as u32;
         let number = number.min(u64::from(count) + 1) as u32;
         let gates = network(alloc, op, count, number)?;

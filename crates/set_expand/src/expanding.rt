@@ -1,11 +1,12 @@
 //! The outputs of a whole specification as nodes.
 
-ghost use Rattle.std.specs.Prelude.{◌≡◌, ℕ, [], List as Seq, All, length, map, IfOk};
+ghost use Rattle.std.specs.Prelude.{◌≡◌, ℕ, [], List as Seq, All, None, length, map, IfOk};
 ghost use Rattle.mltl_base.specs.declared.operators.CountOp.{CountOp as Op};
 ghost use Rattle.mltl_base.specs.Atoms.{Row};
 ghost use Rattle.mltl_base.specs.Formula.{Formula};
 ghost use Rattle.mltl_base.specs.Meaning.{count, sat};
 ghost use Rattle.c2po_ast.specs.ItemShape.{item_shape, spec_shape};
+ghost use Rattle.c2po_types.specs.FirstFault.{first_fault};
 ghost use Rattle.c2po_types.specs.Signals.{signals_of};
 ghost use Rattle.c2po_unfold.specs.Counting.{compares, counting};
 ghost use Rattle.c2po_nodes.specs.Faults.{HasRanges};
@@ -25,6 +26,7 @@ use std::alloc::{AllocError, Global};
 
 /// What is known after all items.
 fn unfold_all<'a>(alloc: Global, items: &'a [Item]) -> Result<Unfolded<'a>, AllocError>
+    requires { first_fault (map item_shape items.now) ≡ None }
     ensures { IfOk result (λ u. Leaves u [] (map item_shape items.now)) }
 {
     let deep = deep_items(alloc, items)?;

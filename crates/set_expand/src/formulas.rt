@@ -1,13 +1,16 @@
 //! Nodes of expressions.
 
-ghost use Rattle.std.specs.Prelude.{◌≡◌, ℕ, true, Some, map, slice_get, IfOk, OnOk};
+ghost use Rattle.std.specs.Prelude.{◌≡◌, ◌<◌, ◌≤◌, ℕ, true, All, Some, length, map, slice_get, IfOk, OnOk};
+ghost use Rattle.mltl_base.specs.declared.limits.TheConstants.{MAX_WEIGHT};
 ghost use Rattle.c2po_ast.specs.Shape.{shape};
 ghost use Rattle.c2po_nodes.specs.Nodes.{Has, formula, number};
 ghost use Rattle.c2po_unfold.specs.Environment.{value_of};
 ghost use Rattle.c2po_unfold.specs.Heads.{is_operator};
-ghost use Rattle.c2po_unfold.specs.Operators.{binary_value, bodies_of, body_value, unary_value};
+ghost use Rattle.c2po_unfold.specs.Operators.{binary_value, bodies_of, bodies_over, body_value, unary_value};
 ghost use Rattle.c2po_unfold.specs.Values.{Value, connected_all, counted, formula_of, members, term_of};
+ghost use Rattle.c2po_unfold.specs.Weights.{counting_weight};
 ghost use Rattle.set_expand.specs.Heads.{IsHead, env_in, head_value};
+ghost use Rattle.set_expand.specs.Light.{IsLight};
 ghost use Rattle.set_expand.specs.Nodes.{AreFormulas, HaveFormulas, HaveNodes, IsMade, IsMore};
 
 use crate::heads::deeper;
@@ -29,6 +32,7 @@ impl<'a> Names<'a> {
         at: Site<'_>,
         e: &Expr,
     ) -> Result<Made, AllocError>
+        requires light { IsLight (value_of (shape e.now) (env_in self.now at.scope.now)) }
         requires kept { HaveNodes nodes.old self.now }
         ensures more { OnOk result (IsMore self.now nodes.old nodes.new) }
         ensures made { IfOk result (λ made. IsMade nodes.new made
@@ -65,6 +69,7 @@ impl<'a> Names<'a> {
     #[cycle(unfolding)]
     fn operator(&self, nodes: &mut NodeList, at: Site<'_>, e: &Expr) -> Result<Made, AllocError>
         requires operator { is_operator (shape e.now) ≡ true }
+        requires light { IsLight (value_of (shape e.now) (env_in self.now at.scope.now)) }
         requires kept { HaveNodes nodes.old self.now }
         ensures more { OnOk result (IsMore self.now nodes.old nodes.new) }
         ensures made { IfOk result (λ made. IsMade nodes.new made
@@ -95,6 +100,7 @@ impl<'a> Names<'a> {
     /// A node with the integer of an expression; any integer where its value is of another kind.
     #[cycle(unfolding)]
     fn number(&self, nodes: &mut NodeList, at: Site<'_>, e: &Expr) -> Result<u32, AllocError>
+        requires light { IsLight (value_of (shape e.now) (env_in self.now at.scope.now)) }
         requires kept { HaveNodes nodes.old self.now }
         ensures more { OnOk result (IsMore self.now nodes.old nodes.new) }
         ensures has { IfOk result (λ n. Has nodes.new n (number
@@ -117,6 +123,7 @@ impl<'a> Names<'a> {
         at: Site<'_>,
         e: &Expr,
     ) -> Result<u32, AllocError>
+        requires light { IsLight (value_of (shape e.now) (env_in self.now at.scope.now)) }
         requires kept { HaveNodes nodes.old self.now }
         ensures more { OnOk result (IsMore self.now nodes.old nodes.new) }
         ensures has { IfOk result (λ n. Has nodes.new n (formula
@@ -140,6 +147,7 @@ impl<'a> Names<'a> {
         op: UnaryOp,
         a: &Expr,
     ) -> Result<Made, AllocError>
+        requires light { IsLight (value_of (shape a.now) (env_in self.now at.scope.now)) }
         requires kept { HaveNodes nodes.old self.now }
         ensures more { OnOk result (IsMore self.now nodes.old nodes.new) }
         ensures made { IfOk result (λ made. IsMade nodes.new made
@@ -174,6 +182,8 @@ impl<'a> Names<'a> {
         a: &Expr,
         b: &Expr,
     ) -> Result<Made, AllocError>
+        requires left { IsLight (value_of (shape a.now) (env_in self.now at.scope.now)) }
+        requires right { IsLight (value_of (shape b.now) (env_in self.now at.scope.now)) }
         requires kept { HaveNodes nodes.old self.now }
         ensures more { OnOk result (IsMore self.now nodes.old nodes.new) }
         ensures made { IfOk result (λ made. IsMade nodes.new made (binary_value op
@@ -214,6 +224,8 @@ impl<'a> Names<'a> {
         a: &Expr,
         b: &Expr,
     ) -> Result<(u32, u32), AllocError>
+        requires left { IsLight (value_of (shape a.now) (env_in self.now at.scope.now)) }
+        requires right { IsLight (value_of (shape b.now) (env_in self.now at.scope.now)) }
         requires kept { HaveNodes nodes.old self.now }
         ensures more { OnOk result (IsMore self.now nodes.old nodes.new) }
         ensures left { IfOk result (λ r. Has nodes.new r.0 (number
@@ -235,6 +247,8 @@ impl<'a> Names<'a> {
         a: &Expr,
         b: &Expr,
     ) -> Result<(u32, u32), AllocError>
+        requires left { IsLight (value_of (shape a.now) (env_in self.now at.scope.now)) }
+        requires right { IsLight (value_of (shape b.now) (env_in self.now at.scope.now)) }
         requires kept { HaveNodes nodes.old self.now }
         ensures more { OnOk result (IsMore self.now nodes.old nodes.new) }
         ensures left { IfOk result (λ r. Has nodes.new r.0 (formula
@@ -258,6 +272,9 @@ impl<'a> Names<'a> {
         i: usize,
     ) -> Result<u32, AllocError>
         requires head { IsHead set.now }
+        requires inside { i < length (members (head_value self.now set.now)) }
+        requires light { All IsLight (bodies_over bodies (env_in self.now at.scope.now)
+            (head_value self.now set.now)) }
         requires kept { HaveNodes nodes.old self.now }
         ensures more { OnOk result (IsMore self.now nodes.old nodes.new) }
         ensures has { (v : Value) → slice_get (members (head_value self.now set.now)) i ≡ Some v
@@ -281,6 +298,7 @@ impl<'a> Names<'a> {
         op: LogicOp,
         bodies: Bodies<'_>,
     ) -> Result<u32, AllocError>
+        requires light { All IsLight (bodies_of bodies (env_in self.now at.scope.now)) }
         requires kept { HaveNodes nodes.old self.now }
         ensures more { OnOk result (IsMore self.now nodes.old nodes.new) }
         ensures has { IfOk result (λ n. Has nodes.new n (formula (formula_of (connected_all op
@@ -311,6 +329,9 @@ impl<'a> Names<'a> {
         number: u64,
         bodies: Bodies<'_>,
     ) -> Result<u32, AllocError>
+        requires light { All IsLight (bodies_of bodies (env_in self.now at.scope.now)) }
+        requires gates { counting_weight (length (bodies_of bodies (env_in self.now at.scope.now)))
+            number ≤ MAX_WEIGHT }
         requires kept { HaveNodes nodes.old self.now }
         ensures more { OnOk result (IsMore self.now nodes.old nodes.new) }
         ensures has { IfOk result (λ n. Has nodes.new n (formula (formula_of (counted op number
@@ -333,6 +354,7 @@ impl<'a> Names<'a> {
         at: Site<'_>,
         bodies: Bodies<'_>,
     ) -> Result<Vec<u32>, AllocError>
+        requires light { All IsLight (bodies_of bodies (env_in self.now at.scope.now)) }
         requires kept { HaveNodes nodes.old self.now }
         ensures more { OnOk result (IsMore self.now nodes.old nodes.new) }
         ensures formulas { IfOk result (λ places. AreFormulas nodes.new places.items) }

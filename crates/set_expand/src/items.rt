@@ -1,6 +1,7 @@
 //! Items one after another: what names stand for, and the outputs.
 
-ghost use Rattle.std.specs.Prelude.{◌≡◌, ◌++◌, ◌+◌, [], List as Seq, length, map, IfOk, OnOk};
+ghost use Rattle.std.specs.Prelude.{◌≡◌, ◌≤◌, ◌++◌, ◌+◌, [], List as Seq, length, map, IfOk, OnOk};
+ghost use Rattle.mltl_base.specs.declared.limits.TheConstants.{MAX_SIGNALS};
 ghost use Rattle.c2po_ast.specs.Shape.{shape};
 ghost use Rattle.c2po_ast.specs.ItemShape.{body_shape, contract, define, field_shape, formula, input, structure, type_shape};
 ghost use Rattle.c2po_nodes.specs.Nodes.{Has, formula as formula_tree};
@@ -8,6 +9,7 @@ ghost use Rattle.c2po_types.specs.Outputs.{before, with_signals};
 ghost use Rattle.c2po_types.specs.Signals.{body_signals, is_bool};
 ghost use Rattle.c2po_unfold.specs.Environment.{value_of};
 ghost use Rattle.c2po_unfold.specs.Values.{formula_of};
+ghost use Rattle.set_expand.specs.Light.{IsLight, IsLightItem};
 ghost use Rattle.set_expand.specs.Names.{SignalsBelow, env_now};
 ghost use Rattle.c2po_nodes.specs.declared.nodes.Plain.{Plain};
 ghost use Rattle.set_expand.specs.Nodes.{HaveNodes, IsMore, MadeAs};
@@ -44,13 +46,6 @@ fn is_bool(tree: &TypeTree) -> bool
     }
 }
 
-/// The number after this one.
-fn next(number: u32) -> Result<u32, AllocError>
-    ensures { IfOk result (λ next. next ≡ number + 1) }
-{
-    number.checked_add(1).ok_or(AllocError)
-}
-
 impl<'a> Names<'a> {
     /// The names with signals of one type from a number on, and the number after these.
     fn with_signals(
@@ -60,6 +55,7 @@ impl<'a> Names<'a> {
         signals: &[Name],
         truth: bool,
     ) -> Result<(Names<'a>, u32), AllocError>
+        requires few { from + length signals.now ≤ MAX_SIGNALS }
         ensures env { IfOk result (λ r. env_now r.0 ≡ with_signals from
             (map (λ x. record { name = x; truth = truth }) signals.now) (env_now self.entry)) }
         ensures below { SignalsBelow from self.entry → IfOk result (λ r. SignalsBelow r.1 r.0) }
@@ -70,21 +66,21 @@ impl<'a> Names<'a> {
         let mut names = self;
         let mut number = from;
         for name in signals {
-            let after = next(number)?;
             names = names.with_signal(alloc, name, truth, number)?;
-            number = after;
+            number += 1;
         }
         Ok((names, number))
     }
 
     /// The node of the formula of an item's expression, which sees all names.
     fn unfold(&self, nodes: &mut NodeList, alloc: Global, e: &Expr) -> Result<u32, AllocError>
-        requires { HaveNodes nodes.old self.now }
+        requires light { IsLight (value_of (shape e.now) (env_now self.now)) }
+        requires kept { HaveNodes nodes.old self.now }
         ensures more { OnOk result (IsMore self.now nodes.old nodes.new) }
         ensures has { IfOk result (λ n. Has nodes.new n
             (formula_tree (formula_of (value_of (shape e.now) (env_now self.now))))) }
     {
-        let scope = Scope::First(self.count()?);
+        let scope = Scope::First(self.count());
         let at = Site {
             alloc,
             depth: DEPTH,
@@ -101,7 +97,8 @@ impl<'a> Names<'a> {
         e: &Expr,
         is_deep: bool,
     ) -> Result<Option<Made>, AllocError>
-        requires { HaveNodes nodes.old self.now }
+        requires light { IsLight (value_of (shape e.now) (env_now self.now)) }
+        requires kept { HaveNodes nodes.old self.now }
         ensures more { OnOk result (IsMore self.now nodes.old nodes.new) }
         ensures made { IfOk result (MadeAs nodes.new
             (value_of (shape e.now) (env_now self.now))) }
@@ -109,7 +106,7 @@ impl<'a> Names<'a> {
         if !is_deep {
             return Ok(None);
         }
-        let scope = Scope::First(self.count()?);
+        let scope = Scope::First(self.count());
         let at = Site {
             alloc,
             depth: DEPTH,
@@ -153,6 +150,7 @@ impl<'a> Unfolded<'a> {
         signals: &List<Name>,
         tree: &TypeTree,
     ) -> Result<Unfolded<'a>, AllocError>
+        requires few { self.signals + length signals.now ≤ MAX_SIGNALS }
         ensures { Puts (input signals.now (type_shape tree.now)) self.entry result }
     {
         let truth = is_bool(tree);
@@ -179,7 +177,8 @@ impl<'a> Unfolded<'a> {
         e: &'a Expr,
         is_deep: bool,
     ) -> Result<Unfolded<'a>, AllocError>
-        requires { HaveNodes self.nodes self.names }
+        requires light { IsLight (value_of (shape e.now) (env_now self.names)) }
+        requires kept { HaveNodes self.nodes self.names }
         ensures { Puts (define name.now (shape e.now)) self.entry result }
     {
         let Unfolded {
@@ -206,7 +205,8 @@ impl<'a> Unfolded<'a> {
         label: &Option<Name>,
         e: &Expr,
     ) -> Result<Unfolded<'a>, AllocError>
-        requires { HaveNodes self.nodes self.names }
+        requires light { IsLight (value_of (shape e.now) (env_now self.names)) }
+        requires kept { HaveNodes self.nodes self.names }
         ensures { Puts (formula engine label.now (shape e.now)) self.entry result }
     {
         let Unfolded {
@@ -235,7 +235,9 @@ impl<'a> Unfolded<'a> {
         left: &Expr,
         right: &Expr,
     ) -> Result<Unfolded<'a>, AllocError>
-        requires { HaveNodes self.nodes self.names }
+        requires left { IsLight (value_of (shape left.now) (env_now self.names)) }
+        requires right { IsLight (value_of (shape right.now) (env_now self.names)) }
+        requires kept { HaveNodes self.nodes self.names }
         ensures { Puts (contract engine label.now (shape left.now) (shape right.now))
             self.entry result }
     {
@@ -264,7 +266,10 @@ impl<'a> Unfolded<'a> {
         item: &'a Item,
         is_deep: bool,
     ) -> Result<Unfolded<'a>, AllocError>
-        requires { HaveNodes self.nodes self.names }
+        requires light { IsLightItem (env_now self.names) (body_shape item.now.body) }
+        requires few { self.signals + length (body_signals (body_shape item.now.body))
+            ≤ MAX_SIGNALS }
+        requires kept { HaveNodes self.nodes self.names }
         ensures { Puts (body_shape item.now.body) self.entry result }
     {
         match &item.body {

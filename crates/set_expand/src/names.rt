@@ -22,18 +22,18 @@ use std::marker::Model;
 #[derive(Clone, Copy)]
 pub enum Entry<'a> {
     /// A struct: its fields, and its number.
-    Struct(&'a List<FieldDecl>, u32),
+    Struct(&'a List<FieldDecl>, usize),
     /// A signal, of kind bool or int, by its number.
     Signal(bool, u32),
     /// The value of an expression under the first names, of which there are so many, and what it is made of nodes,
     /// if it is.
-    Defined(&'a Expr, u32, Option<Made>),
+    Defined(&'a Expr, usize, Option<Made>),
 }
 
 /// What a name stands for, and how many names were declared before it.
 #[derive(Clone, Copy)]
 pub struct Declared<'a> {
-    pub number: u32,
+    pub number: usize,
     pub entry: Entry<'a>,
 }
 
@@ -61,13 +61,6 @@ impl<'a> Model for Names<'a> {
     ghost invariant = { λ names. AreNumbered names.table names.structs };
 }
 
-/// Returns the index after `count` others, as a number of 32 bits. At 2^32 it is out of memory.
-fn next_number(count: usize) -> Result<u32, AllocError>
-    ensures { IfOk result (λ number. number ≡ count) }
-{
-    u32::try_from(count).map_err(|_| AllocError)
-}
-
 /// Puts a name after the others, unless it is there.
 fn put<'a>(
     table: &mut NameTable<Declared<'a>>,
@@ -80,7 +73,7 @@ fn put<'a>(
     if table.contains(name) {
         return Ok(());
     }
-    let number = next_number(table.len())?;
+    let number = table.len();
     table.add(alloc, name, Declared { number, entry })?;
     Ok(())
 }
@@ -97,16 +90,15 @@ impl<'a> Names<'a> {
     }
 
     /// The number of names.
-    pub fn count(&self) -> Result<u32, AllocError>
-        ensures number { IfOk result (λ n. n ≡ length self.now) }
-        ensures all { IfOk result (λ n. env_of self.now n ≡ env_now self.now) }
+    pub fn count(&self) -> usize
+        ensures number { result ≡ length self.now }
+        ensures all { env_of self.now result ≡ env_now self.now }
     {
-        let count = next_number(self.table.len())?;
-        Ok(count)
+        self.table.len()
     }
 
     /// What a name means to the first names, of which there are so many.
-    pub fn find(&self, before: u32, name: &Name) -> Named<'a>
+    pub fn find(&self, before: usize, name: &Name) -> Named<'a>
         ensures means { named_meaning self.now result ≡ env_of self.now before name.now }
         ensures below { (n : ℕ) → SignalsBelow n self.now → NamedBelow n result }
         ensures kept { (nodes : Seq Plain) → HaveNodes nodes self.now
@@ -123,7 +115,7 @@ impl<'a> Names<'a> {
     }
 
     /// The place of a field among those of a struct, where the first names have it.
-    pub fn place_of(&self, before: u32, whole: &Name, field: &Name) -> Option<usize>
+    pub fn place_of(&self, before: usize, whole: &Name, field: &Name) -> Option<usize>
         ensures { result ≡ position (bytes_eq field.now)
             (fields_in (env_of self.now before whole.now)) }
     {
@@ -134,13 +126,18 @@ impl<'a> Names<'a> {
             return None;
         }
         match declared.entry {
-            Entry::Struct(_, number) => self.structs.get(number as usize).place(field),
+            Entry::Struct(_, number) => self.structs.get(number).place(field),
             Entry::Signal(..) | Entry::Defined(..) => None,
         }
     }
 
     /// What a definition's name stands for, with what it is made of nodes, if it is: what its expression leads to.
-    fn entry_of(&self, e: &'a Expr, count: u32, made: Option<Made>) -> Result<Entry<'a>, AllocError>
+    fn entry_of(
+        &self,
+        e: &'a Expr,
+        count: usize,
+        made: Option<Made>,
+    ) -> Result<Entry<'a>, AllocError>
         requires count { count ≡ length self.now }
         requires all { env_of self.now count ≡ env_now self.now }
         ensures means { IfOk result (λ entry. meaning self.now entry
@@ -182,7 +179,7 @@ impl<'a> Names<'a> {
             mut table,
             mut structs,
         } = self;
-        let number = next_number(structs.len())?;
+        let number = structs.len();
         let names = field_names(alloc, decls.as_slice())?;
         let own = Fields::of(alloc, names)?;
         structs.push(own)?;
@@ -225,7 +222,7 @@ impl<'a> Names<'a> {
             → MadeAs nodes (value_of (shape e.now) (env_now self.entry)) made
             → IfOk result (HaveNodes nodes) }
     {
-        let count = self.count()?;
+        let count = self.count();
         let entry = self.entry_of(e, count, made)?;
         let Names { mut table, structs } = self;
         put(&mut table, alloc, name, entry)?;

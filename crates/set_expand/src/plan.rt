@@ -13,13 +13,13 @@ use std::alloc::{AllocError, Global};
 const LEVELS: u32 = 200;
 
 /// The definitions by their names: of each the index of its item.
-type Places = NameTable<u32>;
+type Places = NameTable<usize>;
 
 /// The levels of an expression. The definitions that it names go after those that were found.
 #[cycle(naming)]
 fn levels_of(
     places: &Places,
-    found: &mut Vec<u32>,
+    found: &mut Vec<usize>,
     depth: u32,
     e: &Expr,
 ) -> Result<u32, AllocError> {
@@ -53,7 +53,7 @@ fn levels_of(
 #[cycle(naming)]
 fn levels_of_both(
     places: &Places,
-    found: &mut Vec<u32>,
+    found: &mut Vec<usize>,
     depth: u32,
     a: &Expr,
     b: &Expr,
@@ -67,7 +67,7 @@ fn levels_of_both(
 #[cycle(naming)]
 fn levels_of_all(
     places: &Places,
-    found: &mut Vec<u32>,
+    found: &mut Vec<usize>,
     depth: u32,
     es: &[Expr],
 ) -> Result<u32, AllocError> {
@@ -84,9 +84,8 @@ fn places_of(alloc: Global, items: &[Item]) -> Result<Places, AllocError> {
     let mut places = NameTable::new(alloc);
     for i in 0..items.len() {
         if let Body::Define(name, _) = &items[i].body {
-            let place = u32::try_from(i).map_err(|_| AllocError)?;
             if !places.contains(name) {
-                places.add(alloc, name, place)?;
+                places.add(alloc, name, i)?;
             }
         }
     }
@@ -96,7 +95,7 @@ fn places_of(alloc: Global, items: &[Item]) -> Result<Places, AllocError> {
 /// The levels of an item, and the definitions that it names, where it is an output or a definition that is used.
 fn levels_of_item(
     places: &Places,
-    found: &mut Vec<u32>,
+    found: &mut Vec<usize>,
     item: &Item,
     is_used: bool,
 ) -> Result<u32, AllocError> {
@@ -125,9 +124,9 @@ pub(crate) fn is_set(flags: &[bool], i: usize) -> bool {
 }
 
 /// Marks what was found.
-fn mark(used: &mut Vec<bool>, found: &[u32]) {
+fn mark(used: &mut Vec<bool>, found: &[usize]) {
     for place in found {
-        if let Some(is_used) = used.get_mut(*place as usize) {
+        if let Some(is_used) = used.get_mut(*place) {
             *is_used = true;
         }
     }
@@ -147,10 +146,10 @@ fn used_items(alloc: Global, places: &Places, items: &[Item]) -> Result<Vec<bool
 }
 
 /// The most levels among the definitions that were found.
-fn most_levels(levels: &[u32], found: &[u32]) -> u32 {
+fn most_levels(levels: &[u32], found: &[usize]) -> u32 {
     let mut most = 0;
     for place in found {
-        if let Some(own) = levels.get(*place as usize) {
+        if let Some(own) = levels.get(*place) {
             most = most.max(*own);
         }
     }

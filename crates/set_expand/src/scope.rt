@@ -9,7 +9,7 @@ use std::alloc::Global;
 #[derive(Clone, Copy)]
 pub enum Scope<'a> {
     /// The first names that are declared, of which there are so many.
-    First(u32),
+    First(usize),
     /// A variable, which stands for an expression in a scope of its own.
     Member {
         name: &'a Name,

@@ -1,17 +1,20 @@
 use Rattle.std.proofs.Common.{◌≡◌, ◌+◌, ◌<◌, ℕ, false, Some, List, map, length, sym, subst, ap, ◌∙◌, get_or, slice_get, arith}
 use Rattle.std.proofs.lemmas.Grind.{common_steps}
 use Rattle.std.proofs.lemmas.List.{length-map}
+use Rattle.std.proofs.lemmas.Option.{get_or_from_slice_get, slice_get-get_or, slice_get_within}
 use Rattle.c2po_nodes.proofs.Pushing.{is_formula}
 use Rattle.c2po_ast.specs.Shape.{shape}
-use Rattle.c2po_unfold.specs.Values.{members, formula_of, truth_value, connected_all}
+use Rattle.c2po_unfold.specs.Values.{members, formula_of, truth_value, connected_all, counted}
 use Rattle.c2po_unfold.specs.Environment.{value_of}
 use Rattle.c2po_unfold.specs.Operators.{bodies_over, bodies_of, body_value, operation_value}
 use Rattle.c2po_unfold.proofs.Loops.{bodies_count, body_at, member_at}
 use Rattle.set_expand.specs.declared.nodes.Made.TheVariants as made
 use Rattle.set_expand.specs.Heads.{env_in, head_value}
+use Rattle.set_expand.specs.Light.{IsLight}
 use Rattle.set_expand.specs.Nodes.{HaveFormulas, IsMade}
 use Rattle.set_expand.proofs.Gates.{CountedSoFar, counted_more}
 use Rattle.set_expand.proofs.Joining.{joined_start, joined_more, made_joined, none_joined, none_counted, some_counted}
+use Rattle.set_expand.proofs.Lightness.{light-joined, light-counted, light-gates}
 use Rattle.set_expand.proofs.names.Names.+unfolding.Goals as goal
 
 pub body_nodes-loop-i-preserved : goal.body_nodes-loop-i-preserved
@@ -101,3 +104,42 @@ counted-returns-clause-has t c =
     (omega (arith, some, c.in_ok-places.ensures.have.count, length-map bodies formula_of))
     (c.in_ok-node.ensures.has (map formula_of bodies)
     (subst (λ (ns : List ℕ). HaveFormulas c.body_nodes.new.nodes ns (map formula_of bodies)) (sym c.deref.ensures.value) c.in_ok-places.ensures.have))
+
+-- the body of a light quantifier is light
+pub body-formula-requires : goal.body-formula-requires
+body-formula-requires t c =
+    let names = c.args.self.now in
+    let q = c.args.bodies in
+    let env = env_in names c.args.at.scope.now in
+    let s = head_value names c.args.set.now in
+    let i = c.args.i in
+    let v = get_or (members s) i (truth_value false) in
+    let at : slice_get (members s) i ≡ Some v = slice_get-get_or (members s) i (truth_value false) c.requires.inside in
+    let own = body_value q env v in
+    let there : slice_get (bodies_over q env s) i ≡ Some own = body_at q env s v i at in
+    let light : IsLight own =
+    subst IsLight (get_or_from_slice_get (bodies_over q env s) i own own there) (c.requires.light i own (slice_get_within (bodies_over q env s) i own there)) in
+    (omega arith, (subst (λ env. IsLight (value_of (shape q.body.now) env)) (sym (c.member_scope-scope.ensures v at)) light, c.requires.kept))
+
+-- the bodies of a light quantifier, and what its gates weigh
+pub operator-joined-requires : goal.operator-joined-requires
+operator-joined-requires t c =
+    let env = env_in c.args.self.now c.args.at.scope.now in
+    let bodies = bodies_of c.in-Joined.bodies env in
+    let same : connected_all c.in-Joined.op bodies ≡ value_of (shape c.args.e.now) env =
+    ap (λ r. operation_value r env) (sym c.in-Joined.is) ∙ c.of.ensures env c.requires.operator in
+    (omega arith, (light-joined c.in-Joined.op bodies (value_of (shape c.args.e.now) env) same c.requires.light, c.requires.kept))
+
+pub operator-counted-requires : goal.operator-counted-requires
+operator-counted-requires t c =
+    let env = env_in c.args.self.now c.args.at.scope.now in
+    let bodies = bodies_of c.in-Counted.bodies env in
+    let whole = value_of (shape c.args.e.now) env in
+    let same : counted c.in-Counted.op c.in-Counted.number bodies ≡ whole =
+    ap (λ r. operation_value r env) (sym c.in-Counted.is) ∙ c.of.ensures env c.requires.operator in (
+      omega arith,
+      (
+        light-counted c.in-Counted.op c.in-Counted.number bodies whole same c.requires.light,
+        (light-gates c.in-Counted.op c.in-Counted.number bodies whole same c.requires.light, c.requires.kept),
+      ),
+    )

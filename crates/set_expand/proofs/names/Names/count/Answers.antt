@@ -8,4 +8,4 @@ returns-clause-all c =
     let names = c.args.self.now in
     let structs = c.self.inside.structs in
     let numbered : AreNumbered names structs = subst (λ ns. AreNumbered ns structs) c.self.view_is c.self.invariant in
-    subst (λ n. env_of names n ≡ env_now names) (sym (c.in_ok-count.ensures ∙ (c.len.ensures ∙ ap length c.self.view_is))) (all_names names structs numbered)
+    subst (λ n. env_of names n ≡ env_now names) (sym (c.len.ensures ∙ ap length c.self.view_is)) (all_names names structs numbered)

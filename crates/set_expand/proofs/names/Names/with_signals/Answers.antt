@@ -1,8 +1,8 @@
-use Rattle.std.proofs.Common.{◌≡◌, ◌+◌, ◌∙◌, Some, drop, slice_get, refl, sym, ap, subst, arith}
+use Rattle.std.proofs.Common.{◌≡◌, ◌+◌, ◌∙◌, Some, drop, slice_get, refl, sym, ap, arith}
 use Rattle.c2po_types.specs.Outputs.{with_signals}
 use Rattle.c2po_unfold.specs.Environment.{declare, value, signal_value}
 use Rattle.c2po_unfold.proofs.Members.{found_at}
-use Rattle.set_expand.specs.Names.{SignalsBelow, env_now}
+use Rattle.set_expand.specs.Names.{env_now}
 use Rattle.set_expand.proofs.Stepping.{signals-next, signals-end, below-more, signals_named}
 use Rattle.set_expand.proofs.names.Names.with_signals.Goals as goal
 
@@ -27,10 +27,10 @@ loop-name-preserved c =
     made.env ∙ ap (λ k. declare x (value (signal_value b k)) (env_now c.loop-name.names)) h.number in record {
       env = ap (with_signals (c.args.from + (i + 1)) (drop (i + 1) (signals_named xs b))) now
           ∙ (sym (signals-next xs b i c.args.from x (env_now c.loop-name.names) at) ∙ h.env);
-      below = λ begins. subst (λ n. SignalsBelow n c.in_ok-names.names) (sym c.in_ok-after.ensures)
-          (made.below (c.loop-name.number + 1) (below-more c.loop-name.number (c.loop-name.number + 1) c.loop-name.names (omega arith) (h.below begins)) (omega arith));
+      below = λ begins.
+          made.below (c.loop-name.number + 1) (below-more c.loop-name.number (c.loop-name.number + 1) c.loop-name.names (omega arith) (h.below begins)) (omega arith);
       kept = λ nodes begins. made.kept nodes (h.kept nodes begins);
-      number = omega (arith, c.in_ok-after.ensures, h.number);
+      number = omega (arith, h.number);
     }
 
 pub returns-clause-env : goal.returns-clause-env
