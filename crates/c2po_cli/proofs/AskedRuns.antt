@@ -1,33 +1,36 @@
 -- Runs by what the words ask for: help, nothing, or what it is out of memory for.
 
-use Rattle.std.proofs.Common.{◌≡◌, ◌≢◌, ◌↔◌, ℕ, Bool, List, [], ◌∷◌, refl, sym, ◌∙◌, ap, subst, arith}
+use Rattle.std.proofs.Common.{◌≡◌, ◌≢◌, ◌↔◌, ℕ, List, [], refl, sym, ◌∙◌, ap, subst, arith}
 use Rattle.std.proofs.lemmas.List.{append-nil}
 use Rattle.tool_io.specs.declared.host.Place.TheVariants as at
 use Rattle.tool_io.specs.Log.{Event, given, names_of, Writes}
-use Rattle.tool_io.proofs.LogLaws.{WritesFront-misses, Writes-given, Writes-names}
+use Rattle.tool_io.proofs.LogLaws.{WritesFront-misses, Writes-given}
 use Rattle.tool_words.specs.C2poWords as words
 use Rattle.tool_words.specs.declared.message.Tool.TheVariants.{C2po}
 use Rattle.tool_words.specs.declared.status.Status as status
 use Rattle.tool_words.specs.declared.status.Status.TheVariants as answers
 use Rattle.tool_words.specs.Messages.{usage}
 use Rattle.tool_words.specs.Attaching.{OpensAsTold}
-use Rattle.tool_words.specs.Telling.{is_used, HelpLog}
-use Rattle.tool_words.proofs.AttachLaws.{no_reads_none, writes_unread}
-use Rattle.tool_words.proofs.UseLaws.{writes_unused}
+use Rattle.tool_words.specs.Telling.{HelpLog}
+use Rattle.tool_words.proofs.AttachLaws.{no_reads_none}
+use Rattle.tool_words.proofs.FileLaws.{visit_gave}
 use Rattle.c2po_cli.specs.Asking.{Ask, help, make, nothing, served, ask, asked_names}
-use Rattle.c2po_cli.specs.Run.{MakeOutcome, HelpOutcome, NothingOutcome, OutcomeOf, TriesOf, WritesAttached, names_out, seen, Ran}
+use Rattle.c2po_cli.proofs.LogLaws.{unwritten}
+use Rattle.c2po_cli.specs.Run.{HelpOutcome, NothingOutcome, OutcomeOf, TriesOf, names_out, Ran}
 
 -- help, or a front of it, went out
 help_ran : (answer : status.Status) (sent : List ℕ) (events : List Event) → Writes at.Out sent events → HelpOutcome answer (given at.Out events) → OpensAsTold answer events → Ran help answer events
-help_ran answer sent events writes outcome opened = record {
-  names = record { rest = []; split = sym (append-nil (names_of events) ∙ Writes-names at.Out sent events writes) };
-  tries = tt;
-  reads = λ before after p piece is. absurd (writes_unread at.Out writes.pieces before after p piece (sym writes.are ∙ is));
-  writes = λ named. absurd (cc);
-  outcome = outcome;
-  opened = opened;
-  quiet = ap (is_used at.Err) writes.are ∙ writes_unused at.Err at.Out writes.pieces refl;
-}
+help_ran answer sent events writes outcome opened =
+    let visit = visit_gave at.Out sent events writes in
+    record {
+      names = record { rest = []; split = sym (append-nil (names_of events) ∙ visit.names_are) };
+      tries = tt;
+      reads = visit.reads;
+      writes = λ named. absurd (cc);
+      outcome = outcome;
+      opened = opened;
+      quiet = visit.only at.Err refl;
+    }
 
 pub run_help : (answer : status.Status) (events : List Event) → HelpLog C2po answer events → Ran help answer events
 run_help answers.Helped events writes = help_ran answers.Helped (usage C2po) events writes (Writes-given at.Out (usage C2po) events writes) tt
@@ -37,26 +40,20 @@ run_help (answers.WriteFault at.Out) events fronts =
 run_help answer events is = absurd is
 
 -- nothing was done
-no_writes : (named : Bool) → WritesAttached named []
-no_writes named is [] after piece split = cc
-no_writes named is (event ∷ before) after piece split = cc
-
 tries_none : (asked : Ask) (answer : status.Status) → TriesOf asked answer []
-tries_none help answer = tt
 tries_none (make asked) answer = record { header = λ tried. absurd (cc); out = λ tried. absurd (cc); out_last = λ tried. absurd (cc) }
-tries_none nothing answer = tt
+tries_none asked answer = tt
 
 memory_none : (asked : Ask) → OutcomeOf answers.Memory asked []
-memory_none help = refl
 memory_none (make asked) = (omega arith, refl, refl)
-memory_none nothing = refl
+memory_none asked = refl
 
 run_none : (asked : Ask) (answer : status.Status) → OutcomeOf answer asked [] → OpensAsTold answer [] → Ran asked answer []
 run_none asked answer outcome opened = record {
   names = record { rest = asked_names asked; split = refl };
   tries = tries_none asked answer;
   reads = no_reads_none;
-  writes = no_writes (names_out asked);
+  writes = unwritten (names_out asked) [] refl;
   outcome = outcome;
   opened = opened;
   quiet = refl;
@@ -75,14 +72,12 @@ nothing_usage answers.Memory out is some = absurd (some refl)
 nothing_usage answer out is some = absurd is
 
 pub run_usage : (asked : Ask) (answer : status.Status) (events : List Event) → Ran asked answer events → answer ≢ answers.Memory → (answer ≡ answers.Usage) ↔ (asked ≡ nothing)
-run_usage help answer events ran some = (λ same. absurd (subst (λ s. HelpOutcome s (given at.Out events)) same ran.outcome), λ is. cc)
-run_usage (make asked) answer events ran some = (λ same. absurd (subst (λ s. MakeOutcome s asked (seen asked events)) same ran.outcome), λ is. cc)
 run_usage nothing answer events ran some = (λ same. refl, λ is. nothing_usage answer (given at.Out events) ran.outcome some)
+run_usage asked answer events ran some = (λ same. absurd (subst (λ s. OutcomeOf s asked events) same ran.outcome), λ is. cc)
 
 pub run_helped : (asked : Ask) (answer : status.Status) (events : List Event) → Ran asked answer events → answer ≡ answers.Helped → asked ≡ help
 run_helped help answer events ran is = refl
-run_helped (make asked) answer events ran is = absurd (subst (λ s. MakeOutcome s asked (seen asked events)) is ran.outcome)
-run_helped nothing answer events ran is = absurd (subst (λ s. NothingOutcome s (given at.Out events)) is ran.outcome)
+run_helped asked answer events ran is = absurd (subst (λ s. OutcomeOf s asked events) is ran.outcome)
 
 -- what was read of the words
 pub asked_served : (words_asked : words.C2poRequest) (list : List (List ℕ)) → words_asked ≡ words.ask list → served words_asked ≡ ask list

@@ -4,7 +4,7 @@ use Rattle.std.proofs.Common.{◌≡◌, ◌≢◌, ℕ, ◌<◌, Bool, true, fa
 use Rattle.std.specs.declared.alloc.Global.{Global}
 use Rattle.std.specs.List.{concat}
 use Rattle.std.proofs.lemmas.List.{append-nil}
-use Rattle.tool_io.specs.declared.host.Place.TheVariants.{Header, Out}
+use Rattle.tool_io.specs.declared.host.Place.TheVariants.{Header}
 use Rattle.tool_io.specs.declared.line_cut.Line as line
 use Rattle.tool_io.specs.Log.{Event, Attached}
 use Rattle.tool_io.specs.Whole.{Draws}
@@ -28,15 +28,10 @@ use Rattle.c2po_cli.specs.Made.{compiled_bytes, text_bytes, unless_long, first_l
 use Rattle.c2po_cli.specs.Phases.{IsRefusal, RefusesAlone, ReadsLine, LineLog, HeaderLog, RefusedLog, MadeLog}
 use Rattle.c2po_cli.proofs.MakingLaws.{headed, refused_by, refused_so}
 
--- what a call that makes bytes under a header line answers
-abbrev pub Made : Result (Vec ℕ Global) status.Status → Result (List ℕ) status.Status → Type 0
-Made (Ok bytes) found = found ≡ Ok bytes.items
-Made (Err answer) found = IsRefusal answer × (answer ≢ answers.Memory → found ≡ Err answer)
-
--- and one that makes them without
-abbrev pub MadeAlone : Result (Vec ℕ Global) status.Status → Result (List ℕ) status.Status → Type 0
-MadeAlone (Ok bytes) found = found ≡ Ok bytes.items
-MadeAlone (Err answer) found = RefusesAlone answer × (answer ≢ answers.Memory → found ≡ Err answer)
+-- what a call that makes bytes answers, where a refusal has this status
+abbrev pub Made : (status.Status → Type 0) → Result (Vec ℕ Global) status.Status → Result (List ℕ) status.Status → Type 0
+Made Speaks (Ok bytes) found = found ≡ Ok bytes.items
+Made Speaks (Err answer) found = Speaks answer × (answer ≢ answers.Memory → found ≡ Err answer)
 
 pub line_short : (cut : Cutting) (events : List Event) → CutsLine Header fresh cut line.TheVariants.Row events → length (line_text (row_of cut)) < 65536
 line_short cut events cuts =
@@ -76,15 +71,13 @@ module _ (cut : Cutting) (events : List Event) where
           image = subst (λ l. IfOk found (WritesImage form text (Some l))) (sym first) image;
         }
 
-    pub row_made : (result : Result (Vec ℕ Global) status.Status) (cuts : CutsLine Header fresh cut line.TheVariants.Row events) → Made result (text_bytes form text (Some (line_text (row_of cut))))
+    pub row_made : (result : Result (Vec ℕ Global) status.Status) (cuts : CutsLine Header fresh cut line.TheVariants.Row events) → Made IsRefusal result (text_bytes form text (Some (line_text (row_of cut))))
         → IfOk result (λ bytes. WritesImage form text (Some (line_text (row_of cut))) bytes.items) → LineLog result form text events
     row_made (Ok bytes) cuts made image = line_makes (Ok bytes.items) cuts made image
     row_made (Err answers.Memory) cuts made image = record { bytes = concat cuts.pieces; ended = cut.ended; takes = cut_takes line.TheVariants.Row cuts }
-    row_made (Err (answers.Refused line why)) cuts made image = (tt, line_makes (Err (answers.Refused line why)) cuts (made.1 (λ e. cc)) tt)
-    row_made (Err (answers.BadProgram fault)) cuts made image = (tt, line_makes (Err (answers.BadProgram fault)) cuts (made.1 (λ e. cc)) tt)
-    row_made (Err (answers.BadHeader why)) cuts made image = (tt, line_makes (Err (answers.BadHeader why)) cuts (made.1 (λ e. cc)) tt)
-    row_made (Err (answers.TextTooLong Out)) cuts made image = (tt, line_makes (Err (answers.TextTooLong Out)) cuts (made.1 (λ e. cc)) tt)
-    row_made (Err answer) cuts made image = absurd made.0
+    row_made (Err (answers.TextTooLong Header)) cuts made image = absurd made.0
+    row_made (Err (answers.ReadFault Header)) cuts made image = absurd made.0
+    row_made (Err answer) cuts made image = (made.0, line_makes (Err answer) cuts (made.1 (λ e. cc)) tt)
 
     -- there is no line
     pub end_made : CutsLine Header fresh cut line.TheVariants.End events → LineLog (Err (answers.BadHeader NoHeader)) form text events
@@ -142,27 +135,17 @@ header_log (Err (answers.OpenFault Header)) form name text events has = absurd h
 header_log (Err answer) form name text events has = has
 
 -- what the calls that make bytes answer
-pub made_so : (form : Form) (header : Option (List ℕ)) (items : List ItemShape) (text : List ℕ) (result : Result (Vec ℕ Global) status.Status)
+pub made_so : (Speaks : status.Status → Type 0) (form : Form) (header : Option (List ℕ)) (items : List ItemShape) (text : List ℕ) (result : Result (Vec ℕ Global) status.Status)
     → IfOk result (λ bytes. (text : List ℕ) → first_refusal text ≡ None → items ≡ items_in text → text_bytes form text header ≡ Ok bytes.items)
     → IfErr result (λ answer. answer ≢ answers.Memory → (text : List ℕ) → first_refusal text ≡ None → items ≡ items_in text → text_bytes form text header ≡ Err answer)
-    → IfErr result IsRefusal → first_refusal text ≡ None → items ≡ items_in text → Made result (text_bytes form text header)
-made_so form header items text (Ok bytes) made refused speaks none same = made text none same
-made_so form header items text (Err answer) made refused speaks none same = (speaks, λ some. refused some text none same)
+    → IfErr result Speaks → first_refusal text ≡ None → items ≡ items_in text → Made Speaks result (text_bytes form text header)
+made_so Speaks form header items text (Ok bytes) made refused speaks none same = made text none same
+made_so Speaks form header items text (Err answer) made refused speaks none same = (speaks, λ some. refused some text none same)
 
-pub alone_so : (form : Form) (items : List ItemShape) (text : List ℕ) (result : Result (Vec ℕ Global) status.Status)
-    → IfOk result (λ bytes. (text : List ℕ) → first_refusal text ≡ None → items ≡ items_in text → text_bytes form text None ≡ Ok bytes.items)
-    → IfErr result (λ answer. answer ≢ answers.Memory → (text : List ℕ) → first_refusal text ≡ None → items ≡ items_in text → text_bytes form text None ≡ Err answer)
-    → IfErr result RefusesAlone → first_refusal text ≡ None → items ≡ items_in text → MadeAlone result (text_bytes form text None)
-alone_so form items text (Ok bytes) made refused speaks none same = made text none same
-alone_so form items text (Err answer) made refused speaks none same = (speaks, λ some. refused some text none same)
-
-pub made_log : (found : Result (List ℕ) status.Status) (result : Result (Vec ℕ Global) status.Status) → MadeAlone result found → MadeLog result found []
+pub made_log : (found : Result (List ℕ) status.Status) (result : Result (Vec ℕ Global) status.Status) → Made RefusesAlone result found → MadeLog result found []
 made_log found (Ok bytes) made = (refl, made)
 made_log found (Err answers.Memory) made = refl
-made_log found (Err (answers.Refused line why)) made = (refl, tt, made.1 (λ e. cc))
-made_log found (Err (answers.BadProgram fault)) made = (refl, tt, made.1 (λ e. cc))
-made_log found (Err (answers.TextTooLong Out)) made = (refl, tt, made.1 (λ e. cc))
-made_log found (Err answer) made = absurd made.0
+made_log found (Err answer) made = (refl, made.0, made.1 (λ e. cc))
 
 pub program_made : (found : Result (List ℕ) status.Status) (result : Result (Vec ℕ Global) status.Status) → IfOk result (λ made. found ≡ Ok made.items) → IfErr result (λ answer. answer ≢ answers.Memory → found ≡ Err answer) → IfErr result RefusesAlone → MadeLog result found []
 program_made found (Ok bytes) made refused speaks = made_log found (Ok bytes) made

@@ -57,21 +57,18 @@ limit_refuses form text header items columns fault none same found refused some 
 
 -- each is a refusal
 pub compile_refuses : (fault : CompileFault) → IsRefusal (compile_status fault)
-compile_refuses (compile.Refused line why) = tt
-compile_refuses (compile.BadHeader why) = tt
 compile_refuses compile.Memory = tt
+compile_refuses fault = tt
 
 -- without a header line neither tells of a header
 pub alone_columns : (signals : List Signal) (header : Option (List ℕ)) (fault : CompileFault) → header ≡ None → (fault ≢ compile.Memory → refusal_in header_refusal (columns_by signals header) ≡ Some fault) → RefusesAlone (compile_status fault)
-alone_columns signals header (compile.Refused line why) is refused = tt
 alone_columns signals header (compile.BadHeader why) is refused =
     absurd (let no : None ≡ Some (compile.BadHeader why) = sym (ap (λ h. refusal_in header_refusal (columns_by signals h)) is) ∙ refused (λ e. cc) in cc)
-alone_columns signals header compile.Memory is refused = tt
+alone_columns signals header fault is refused = tt
 
 pub alone_limit : (first : Option CompileFault) (fault : CompileFault) → IsFirstRefusal first fault → RefusesAlone (compile_status fault)
-alone_limit first (compile.Refused line why) is = tt
 alone_limit first (compile.BadHeader why) is = absurd is
-alone_limit first compile.Memory is = tt
+alone_limit first fault is = tt
 
 -- its program is written
 pub text_written : (form : Form) (header : Option (List ℕ)) (items : List ItemShape) (columns : Columns) (program : Program) (result : Result (Vec ℕ Global) Status)

@@ -1,14 +1,9 @@
 -- A program that is shown is written as its text, and an image returns from it.
 
-use Rattle.std.proofs.Common.{◌≡◌, ◌∙◌, ℕ, Option, Some, None, Result, Ok, Err, List, ◌++◌, refl, sym, ap, subst}
+use Rattle.std.proofs.Common.{◌≡◌, ◌∙◌, ℕ, Option, Some, None, Result, Ok, Err, List, refl, sym, ap, subst}
 use Rattle.mltl_base.specs.declared.program.Columns.{Columns}
 use Rattle.mltl_base.specs.declared.program.Program.{Program}
-use Rattle.tool_io.specs.declared.host.Place as place
-use Rattle.tool_io.specs.declared.host.Place.TheVariants as at
-use Rattle.tool_io.specs.declared.host.Put as put
 use Rattle.tool_io.specs.Log.{Event}
-use Rattle.tool_io.specs.Host.{WriteCause}
-use Rattle.tool_io.specs.Whole.{PutAllLog}
 use Rattle.obs_files.specs.Layout.{IsEncodable, spelling}
 use Rattle.obs_files.specs.declared.fault.FileFault.{FileFault}
 use Rattle.obs_files.specs.Faults.{opened}
@@ -26,17 +21,13 @@ use Rattle.c2po_compile.specs.Simplified.{simple_image_in}
 use Rattle.c2po_compile.proofs.MovedImages.{layout_of}
 use Rattle.show_roundtrip.proofs.Images.{image_returns, simple_returns}
 use Rattle.show_roundtrip.proofs.ShownImages.{image_passes, simple_passes}
-use Rattle.tool_words.specs.declared.message.Tool.TheVariants.{C2po}
 use Rattle.tool_words.specs.declared.status.Status as status
-use Rattle.tool_words.specs.Messages.{told_to_user}
-use Rattle.tool_words.specs.Causes.{RunCause}
 use Rattle.c2po_cli.specs.declared.make.Product.{Product}
 use Rattle.c2po_cli.specs.declared.make.Product.TheVariants.{Compiled, Upgrade, Show}
-use Rattle.c2po_cli.specs.Asking.{Ask, help, make, nothing}
+use Rattle.c2po_cli.specs.Asking.{Ask, make}
 use Rattle.c2po_cli.specs.Made.{made, made_as, opened_as, raised_as, text_within, unless_past}
-use Rattle.c2po_cli.specs.Run.{seen, MakeOutcome, OutcomeOf, Ran}
+use Rattle.c2po_cli.specs.Run.{seen, MakeOutcome, OutcomeOf}
 use Rattle.c2po_cli.specs.Showing.{Returns, IsShown, ShowsFile, ShowsProgram}
-use Rattle.c2po_cli.proofs.MainLaws.{main_ran}
 
 -- what is within both limits is written as its text
 within_both : (fault : Option ShowFault) (bytes written : List ℕ) → unless_past fault bytes ≡ Ok written → (fault ≡ None) × (bytes ≡ written)
@@ -105,14 +96,9 @@ shows_file Upgrade header file lines written is = tt
 shows_file Show header file lines written is = shown_as file written (opened file) refl is
 
 -- what a run shows
-shows_program : (asked : Ask) (answer : status.Status) (events : List Event) → OutcomeOf answer asked events → ShowsProgram asked answer events
+pub shows_program : (asked : Ask) (answer : status.Status) (events : List Event) → OutcomeOf answer asked events → ShowsProgram asked answer events
 unfolding made
-shows_program help answer events outcome = tt
 shows_program (make asked) answer events outcome = λ done.
     let is = subst (λ s. MakeOutcome s asked (seen asked events)) done outcome in
     shows_file asked.product asked.header (seen asked events).file (seen asked events).header (seen asked events).out is.bytes.is
-shows_program nothing answer events outcome = tt
-
-pub main_shows : (asked : Ask) (answer : status.Status) (before between now : place.Place → ℕ) (first second : List Event) (sending : put.Put) → Ran asked answer first → RunCause answer before between → WriteCause sending between now at.Err → PutAllLog sending at.Err (told_to_user C2po answer) second → ShowsProgram asked answer (first ++ second)
-main_shows asked answer before between now first second sending ran cause sent told =
-    shows_program asked answer (first ++ second) (main_ran asked answer before between now first second sending ran cause sent told).outcome
+shows_program asked answer events outcome = tt

@@ -1,32 +1,23 @@
 -- A program in simplified form is written, with no more slots and boxes than the plain one.
 
-use Rattle.std.proofs.Common.{◌≡◌, ◌∙◌, ℕ, Bool, true, false, Option, Some, None, option_map, Result, Ok, Err, List, ◌++◌, refl, sym, ap, subst}
+use Rattle.std.proofs.Common.{◌≡◌, ◌∙◌, ℕ, Bool, true, false, Option, Some, None, option_map, Result, Ok, Err, List, refl, sym, ap, subst}
 use Rattle.mltl_base.specs.declared.program.Program.{Program}
-use Rattle.tool_io.specs.declared.host.Place as place
-use Rattle.tool_io.specs.declared.host.Place.TheVariants as at
-use Rattle.tool_io.specs.declared.host.Put as put
 use Rattle.tool_io.specs.Log.{Event}
-use Rattle.tool_io.specs.Host.{WriteCause}
-use Rattle.tool_io.specs.Whole.{PutAllLog}
 use Rattle.c2po_compile.specs.declared.fault.CompileFault.{CompileFault}
 use Rattle.c2po_compile.specs.Compiled.{image_of_text}
 use Rattle.c2po_compile.specs.Front.{first_refusal}
 use Rattle.c2po_compile.specs.Refusals.{unless_refused}
 use Rattle.c2po_compile.specs.Simplified.{simple_image_of_text}
 use Rattle.c2po_compile.proofs.SimpleLaws.{simple_no_more, simple_refused}
-use Rattle.tool_words.specs.declared.message.Tool.TheVariants.{C2po}
 use Rattle.tool_words.specs.declared.status.Status as status
 use Rattle.tool_words.specs.FirstLine.{begins_long}
-use Rattle.tool_words.specs.Messages.{told_to_user}
-use Rattle.tool_words.specs.Causes.{RunCause}
 use Rattle.c2po_cli.specs.declared.make.Form.{Form}
-use Rattle.c2po_cli.specs.Asking.{Ask, help, make, nothing}
+use Rattle.c2po_cli.specs.Asking.{Ask, make}
 use Rattle.c2po_cli.specs.Images.{asked_header}
 use Rattle.tool_words.specs.Statuses.{compile_status}
 use Rattle.c2po_cli.specs.Made.{asked_program, compiled_bytes, first_line, made, made_as, made_of_text, text_bytes, unless_long, written_as}
-use Rattle.c2po_cli.specs.Run.{seen, MakeOutcome, OutcomeOf, Ran}
+use Rattle.c2po_cli.specs.Run.{seen, MakeOutcome, OutcomeOf}
 use Rattle.c2po_cli.specs.Written.{IsNoLarger, NeedsNoMore}
-use Rattle.c2po_cli.proofs.MainLaws.{main_ran}
 
 -- what gives bytes isn't refused before
 unrefused : (refusal : Option status.Status) (found : Result (List ℕ) status.Status) (written : List ℕ) → unless_refused refusal found ≡ Ok written → found ≡ Ok written
@@ -64,16 +55,11 @@ text_no_larger form text header written simplified makes =
     (ap (λ simplify. compiled_bytes form.table (asked_program simplify text header)) (sym simplified) ∙ makes)
 
 -- so does a whole run
-needs_no_more : (asked : Ask) (answer : status.Status) (events : List Event) → OutcomeOf answer asked events → NeedsNoMore asked answer events
+pub needs_no_more : (asked : Ask) (answer : status.Status) (events : List Event) → OutcomeOf answer asked events → NeedsNoMore asked answer events
 unfolding made
-needs_no_more help answer events outcome = tt
 needs_no_more (make asked) answer events outcome = λ form product simplified done.
     let run = seen asked events in
     let is = subst (λ s. MakeOutcome s asked run) done outcome in
     text_no_larger form run.file (asked_header asked.header run.header) run.out simplified
     (text_gives form asked.header run.file run.header run.out (ap (λ what. made_as what asked.header run.file run.header) (sym product) ∙ is.bytes.is))
-needs_no_more nothing answer events outcome = tt
-
-pub main_needs_no_more : (asked : Ask) (answer : status.Status) (before between now : place.Place → ℕ) (first second : List Event) (sending : put.Put) → Ran asked answer first → RunCause answer before between → WriteCause sending between now at.Err → PutAllLog sending at.Err (told_to_user C2po answer) second → NeedsNoMore asked answer (first ++ second)
-main_needs_no_more asked answer before between now first second sending ran cause sent told =
-    needs_no_more asked answer (first ++ second) (main_ran asked answer before between now first second sending ran cause sent told).outcome
+needs_no_more asked answer events outcome = tt

@@ -1,33 +1,24 @@
 -- What is written of a program that is upgraded.
 
-use Rattle.std.proofs.Common.{◌≡◌, ◌∙◌, ℕ, Bool, true, false, None, Result, Ok, Err, List, Vec, IfOk, OnOk, [], ◌++◌, refl, sym, ap, subst}
+use Rattle.std.proofs.Common.{◌≡◌, ◌∙◌, ℕ, Bool, true, false, None, Result, Ok, Err, List, Vec, IfOk, OnOk, [], refl, sym, ap, subst}
 use Rattle.std.specs.Prelude.{◌==◌, if◌then◌else◌}
 use Rattle.std.specs.declared.alloc.Global.{Global}
 use Rattle.mltl_base.specs.declared.program.Program.{Program}
 use Rattle.mltl_base.specs.Programs.{outputs, output_names}
-use Rattle.tool_io.specs.declared.host.Place as place
-use Rattle.tool_io.specs.declared.host.Place.TheVariants as at
-use Rattle.tool_io.specs.declared.host.Put as put
 use Rattle.tool_io.specs.Log.{Event}
-use Rattle.tool_io.specs.Host.{WriteCause}
-use Rattle.tool_io.specs.Whole.{PutAllLog}
 use Rattle.obs_files.specs.Layout.{IsEncodable}
 use Rattle.obs_files.specs.Faults.{opened}
 use Rattle.obs_files.proofs.Opening.{found_again}
 use Rattle.obs_verify.specs.Upgrade.{clash_of, first_clash, raised, up}
 use Rattle.obs_verify.specs.WellFormed.{IsWellFormed}
 use Rattle.obs_verify.proofs.WellRaised.{names_raised, outputs_raised, well_raised}
-use Rattle.tool_words.specs.declared.message.Tool.TheVariants.{C2po}
 use Rattle.tool_words.specs.declared.status.Status as status
-use Rattle.tool_words.specs.Messages.{told_to_user}
-use Rattle.tool_words.specs.Causes.{RunCause}
-use Rattle.c2po_cli.specs.Asking.{Ask, help, make, nothing}
+use Rattle.c2po_cli.specs.Asking.{Ask, make}
 use Rattle.c2po_cli.specs.Images.{GivesFile}
 use Rattle.c2po_cli.specs.Made.{written_as}
-use Rattle.c2po_cli.specs.Run.{file_in, seen, MakeOutcome, OutcomeOf, Ran}
+use Rattle.c2po_cli.specs.Run.{file_in, seen, MakeOutcome, OutcomeOf}
 use Rattle.c2po_cli.specs.Upgrading.{IsRaisedFrom, IsUpgraded}
 use Rattle.c2po_cli.specs.Written.{UpgradesProgram}
-use Rattle.c2po_cli.proofs.MainLaws.{main_ran}
 
 -- in version 2 a program is well-formed still
 up_formed : (program : Program) → IsWellFormed program → clash_of program ≡ None → IsWellFormed (up program)
@@ -56,13 +47,8 @@ upgraded_written file new (Ok bytes) from second is fits = record {
 upgraded_written file new (Err answer) from second is fits = tt
 
 -- so does a whole run
-upgrades_program : (asked : Ask) (answer : status.Status) (events : List Event) → OutcomeOf answer asked events → UpgradesProgram asked answer events
-upgrades_program help answer events outcome = tt
+pub upgrades_program : (asked : Ask) (answer : status.Status) (events : List Event) → OutcomeOf answer asked events → UpgradesProgram asked answer events
 upgrades_program (make asked) answer events outcome = λ product done.
     let is = subst (λ s. MakeOutcome s asked (seen asked events)) done outcome in
     subst (λ what. GivesFile what asked.header (file_in asked events) (seen asked events).header (seen asked events).out) product is.bytes.gives
-upgrades_program nothing answer events outcome = tt
-
-pub main_upgrades : (asked : Ask) (answer : status.Status) (before between now : place.Place → ℕ) (first second : List Event) (sending : put.Put) → Ran asked answer first → RunCause answer before between → WriteCause sending between now at.Err → PutAllLog sending at.Err (told_to_user C2po answer) second → UpgradesProgram asked answer (first ++ second)
-main_upgrades asked answer before between now first second sending ran cause sent told =
-    upgrades_program asked answer (first ++ second) (main_ran asked answer before between now first second sending ran cause sent told).outcome
+upgrades_program asked answer events outcome = tt

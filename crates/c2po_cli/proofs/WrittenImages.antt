@@ -15,7 +15,7 @@ use Rattle.c2po_compile.specs.ImageFiles.{IsFileOf}
 use Rattle.tool_io.specs.Log.{Event}
 use Rattle.tool_words.specs.declared.status.Status as status
 use Rattle.c2po_cli.specs.declared.make.Form.{Form}
-use Rattle.c2po_cli.specs.Asking.{Ask, help, make, nothing}
+use Rattle.c2po_cli.specs.Asking.{Ask, make}
 use Rattle.c2po_cli.specs.Images.{IsFileBy, WritesImage}
 use Rattle.c2po_cli.specs.Made.{image_by, written_as}
 use Rattle.c2po_cli.specs.Run.{seen, CompilesImage, MakeOutcome, OutcomeOf}
@@ -47,8 +47,7 @@ image_written form header items columns program (Err answer) found serve made is
 
 -- so a whole run writes one
 pub compiles_image : (asked : Ask) (answer : status.Status) (events : List Event) → OutcomeOf answer asked events → CompilesImage asked answer events
-compiles_image help answer events outcome = tt
 compiles_image (make asked) answer events outcome = λ done.
     let is = subst (λ s. MakeOutcome s asked (seen asked events)) done outcome in
     is.bytes.gives
-compiles_image nothing answer events outcome = tt
+compiles_image asked answer events outcome = tt

@@ -4,15 +4,15 @@ use Rattle.std.specs.Prelude.{◌≡◌, ℕ, ◌⊎◌, Bool, true, false, Opti
 use Rattle.std.specs.Prelude.{[], ◌∷◌, Vec, ⊤}
 use Rattle.std.specs.declared.alloc.Global.{Global}
 use Rattle.tool_io.specs.declared.host.Place as place
-use Rattle.tool_io.specs.Log.{Event, Attached, Missed, Took, Gave, given, names_of, IsFront, IsProperFront, Writes}
+use Rattle.tool_io.specs.Log.{Event, Attached, Missed, same_place, given, names_of, IsFront, IsProperFront, Writes}
 use Rattle.tool_io.specs.Log.{WritesFront}
-use Rattle.tool_io.specs.Host.{IsSource}
 use Rattle.tool_io.specs.Whole.{Draws}
 use Rattle.tool_io.specs.Cutting.{lines_of}
 use Rattle.c2po_compile.specs.Front.{first_refusal}
 use Rattle.tool_words.specs.declared.status.Status as status
 use Rattle.tool_words.specs.Attaching.{is_attached, ReadsAttached, OpensAsTold}
 use Rattle.tool_words.specs.FirstLine.{HasBegun}
+use Rattle.tool_words.specs.Telling.{is_used}
 use Rattle.c2po_cli.specs.declared.make.Form.{Form}
 use Rattle.c2po_cli.specs.declared.make.Product.{Product}
 use Rattle.c2po_cli.specs.declared.make.Product.TheVariants.{Compiled, Upgrade, Show}
@@ -111,27 +111,21 @@ FileMadeLog Show result header file events = MadeLog result (opened_as text_with
 abbrev pub AfterLog : Result (Vec ℕ Global) status.Status → MakeAsked → List ℕ → List Event → Type 0
 AfterLog result asked file events = FileMadeLog asked.product result asked.header file events
 
--- the events are calls at places that are read
-abbrev pub OnlySources : List Event → Type 0
-OnlySources [] = ⊤
-OnlySources (Attached p name ∷ events) = IsSource p × OnlySources events
-OnlySources (Missed p name ∷ events) = IsSource p × OnlySources events
-OnlySources (Took p piece ∷ events) = IsSource p × OnlySources events
-OnlySources (Gave p piece ∷ events) = ⊥
-
 -- all was read, and gave these bytes
 pub record Gathered (asked : MakeAsked) (bytes : List ℕ) (events : List Event) : Type 0 where
   pub names : names_of events ≡ read_names asked
-  pub sources : OnlySources events
   pub reads : ReadsAttached [] events
+  pub unwritten : is_used place.TheVariants.Out events ≡ false
+  pub quiet : is_used place.TheVariants.Err events ≡ false
   pub makes : MakesFile asked (seen asked events) (Ok bytes)
   pub tries : is_tried place.TheVariants.Header (names_of events) ≡ true → HasFaultlessText asked (seen asked events)
 
 -- something failed or was refused
 pub record NotGathered (asked : MakeAsked) (answer : status.Status) (events : List Event) : Type 0 where
   pub names : IsFront (names_of events) (read_names asked)
-  pub sources : OnlySources events
   pub reads : ReadsAttached [] events
+  pub unwritten : is_used place.TheVariants.Out events ≡ false
+  pub quiet : is_used place.TheVariants.Err events ≡ false
   pub outcome : MakeOutcome answer asked (seen asked events)
   pub tries : is_tried place.TheVariants.Header (names_of events) ≡ true → HasFaultlessText asked (seen asked events)
   pub opened : OpensAsTold answer events
@@ -148,14 +142,6 @@ GivenLog (status.TheVariants.WriteFault place.TheVariants.Out) bytes events =
     WritesFront place.TheVariants.Out bytes events
 GivenLog answer bytes events = ⊥
 
--- the events are calls at Out
-abbrev pub OnlyOut : List Event → Type 0
-OnlyOut [] = ⊤
-OnlyOut (Attached place.TheVariants.Out name ∷ events) = OnlyOut events
-OnlyOut (Missed place.TheVariants.Out name ∷ events) = OnlyOut events
-OnlyOut (Gave place.TheVariants.Out piece ∷ events) = OnlyOut events
-OnlyOut (event ∷ events) = ⊥
-
 -- how bytes are written, into a file where one is named
 abbrev pub PutOutcome : status.Status → Option (List ℕ) → List ℕ → List ℕ → Bool → Type 0
 PutOutcome status.TheVariants.Done out bytes sent attached = (sent ≡ bytes) × (attached ≡ is_some out)
@@ -168,7 +154,8 @@ PutOutcome answer out bytes sent attached = ⊥
 -- the log of writing bytes, into a file where one is named
 pub record PutLog (answer : status.Status) (out : Option (List ℕ)) (bytes : List ℕ) (events : List Event) : Type 0 where
   pub names : IsFront (names_of events) (place_named place.TheVariants.Out out)
-  pub only : OnlyOut events
+  pub reads : ReadsAttached [] events
+  pub only : (p : place.Place) → same_place p place.TheVariants.Out ≡ false → is_used p events ≡ false
   pub writes : WritesAttached (is_some out) events
   pub outcome : PutOutcome answer out bytes (given place.TheVariants.Out events)
       (is_attached place.TheVariants.Out events)

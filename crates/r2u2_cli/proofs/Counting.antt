@@ -10,7 +10,7 @@ use Rattle.mltl_base.specs.declared.program.Program.{Program}
 use Rattle.mltl_base.specs.declared.report.Report.{Report}
 use Rattle.mltl_base.specs.declared.report.Style.TheVariants.{Each}
 use Rattle.mltl_base.specs.declared.report.Word.{Word}
-use Rattle.mltl_base.specs.declared.report.Word.TheVariants.{T, F, Inactive, Invalid, Verified}
+use Rattle.mltl_base.specs.declared.report.Word.TheVariants.{T}
 use Rattle.mltl_base.specs.Atoms.{Row}
 use Rattle.mltl_base.specs.Formula.{truth}
 use Rattle.mltl_base.specs.Programs.{output_of, outputs}
@@ -63,10 +63,7 @@ plus_none n = omega arith
 
 none_counted : (w : Word) → tallied none w ≡ 0
 none_counted T = refl
-none_counted F = refl
-none_counted Inactive = refl
-none_counted Invalid = refl
-none_counted Verified = refl
+none_counted w = refl
 
 -- one more report is counted in its output's tally
 same_count : (k : ℕ) (w : Word) (told : List Report) (report : Report) → (report.out == k) ≡ true

@@ -29,17 +29,17 @@ climbed n ts e enough h = sym (agree n ts enough) ∙ h
 abbrev pub resp_tree : Shape
 resp_tree = logic 2 Implies (named 2 (codes "a")) (window 2 F 0 3 (named 2 (codes "b")))
 
-resp_climbs : climb_all 37 (drop 2 resp) ≡ Some resp_tree
-unfolding climb start_at operator_at interval_at middle_at
-resp_climbs = refl
+resp_read : output_item Ft resp ≡ Some (formula Ft (Some (codes "resp")) resp_tree)
+unfolding output_item label_at promise_at climb start_at operator_at interval_at middle_at
+resp_read = ap (λ o. o >>= λ e. Some (formula Ft (Some (codes "resp")) e)) (climbed 37 (drop 2 resp) resp_tree (lit≤ tt) refl)
 
 -- G[0,2] (x < 0)
 abbrev pub low_tree : Shape
 low_tree = window 2 G 0 2 (compare 2 Lt (named 2 (codes "x")) (number 2 (pos 0)))
 
-low_climbs : climb_all 45 (drop 2 low) ≡ Some low_tree
-unfolding climb start_at operator_at interval_at middle_at
-low_climbs = refl
+low_read : output_item Ft low ≡ Some (formula Ft (Some (codes "low")) low_tree)
+unfolding output_item label_at promise_at climb start_at operator_at interval_at middle_at
+low_read = ap (λ o. o >>= λ e. Some (formula Ft (Some (codes "low")) e)) (climbed 45 (drop 2 low) low_tree (lit≤ tt) refl)
 
 -- a => F[0,1] b
 abbrev pub agc_left : Shape
@@ -48,23 +48,21 @@ agc_left = named 2 (codes "a")
 abbrev pub agc_right : Shape
 agc_right = window 2 F 0 1 (named 2 (codes "b"))
 
-agc_left_climbs : climb_all 5 (take 1 (drop 2 agc)) ≡ Some agc_left
-unfolding climb start_at operator_at interval_at middle_at
-agc_left_climbs = refl
-
-agc_right_climbs : climb_all 29 (drop 2 (drop 2 agc)) ≡ Some agc_right
-unfolding climb start_at operator_at interval_at middle_at
-agc_right_climbs = refl
+agc_read : output_item Ft agc ≡ Some (contract Ft (Some (codes "agc")) agc_left agc_right)
+unfolding output_item label_at promise_at climb start_at operator_at interval_at middle_at
+agc_read =
+    ap (λ o. o >>= λ e. parsed_tree (drop 2 (drop 2 agc)) >>= λ f. Some (contract Ft (Some (codes "agc")) e f)) (climbed 5 (take 1 (drop 2 agc)) agc_left (lit≤ tt) refl)
+    ∙ ap (λ o. o >>= λ f. Some (contract Ft (Some (codes "agc")) agc_left f)) (climbed 29 (drop 2 (drop 2 agc)) agc_right (lit≤ tt) refl)
 
 -- O[0,4] a
 abbrev pub once_tree : Shape
 once_tree = window 3 O 0 4 (named 3 (codes "a"))
 
-once_climbs : climb_all 29 (drop 2 once) ≡ Some once_tree
-unfolding climb start_at operator_at interval_at middle_at
-once_climbs = refl
+once_read : output_item Pt once ≡ Some (formula Pt (Some (codes "once")) once_tree)
+unfolding output_item label_at promise_at climb start_at operator_at interval_at middle_at
+once_read = ap (λ o. o >>= λ e. Some (formula Pt (Some (codes "once")) e)) (climbed 29 (drop 2 once) once_tree (lit≤ tt) refl)
 
--- the items
+-- what is read of the signals
 truths_read : input_of truths ≡ Some (input (codes "a" ∷ codes "b" ∷ []) (type_named (codes "bool")))
 unfolding input_of names_within type_within
 truths_read = refl
@@ -72,37 +70,6 @@ truths_read = refl
 wholes_read : input_of wholes ≡ Some (input (codes "x" ∷ []) (type_named (codes "int")))
 unfolding input_of names_within type_within
 wholes_read = refl
-
-resp_form : output_item Ft resp ≡ (parsed_tree (drop 2 resp) >>= λ e. Some (formula Ft (Some (codes "resp")) e))
-unfolding output_item label_at promise_at
-resp_form = refl
-
-low_form : output_item Ft low ≡ (parsed_tree (drop 2 low) >>= λ e. Some (formula Ft (Some (codes "low")) e))
-unfolding output_item label_at promise_at
-low_form = refl
-
-agc_form : output_item Ft agc ≡ (parsed_tree (take 1 (drop 2 agc)) >>= λ e. parsed_tree (drop 2 (drop 2 agc)) >>= λ f. Some (contract Ft (Some (codes "agc")) e f))
-unfolding output_item label_at promise_at
-agc_form = refl
-
-once_form : output_item Pt once ≡ (parsed_tree (drop 2 once) >>= λ e. Some (formula Pt (Some (codes "once")) e))
-unfolding output_item label_at promise_at
-once_form = refl
-
-resp_read : output_item Ft resp ≡ Some (formula Ft (Some (codes "resp")) resp_tree)
-resp_read = resp_form ∙ ap (λ o. o >>= λ e. Some (formula Ft (Some (codes "resp")) e)) (climbed 37 (drop 2 resp) resp_tree (lit≤ tt) resp_climbs)
-
-low_read : output_item Ft low ≡ Some (formula Ft (Some (codes "low")) low_tree)
-low_read = low_form ∙ ap (λ o. o >>= λ e. Some (formula Ft (Some (codes "low")) e)) (climbed 45 (drop 2 low) low_tree (lit≤ tt) low_climbs)
-
-agc_read : output_item Ft agc ≡ Some (contract Ft (Some (codes "agc")) agc_left agc_right)
-agc_read =
-    agc_form
-    ∙ ap (λ o. o >>= λ e. parsed_tree (drop 2 (drop 2 agc)) >>= λ f. Some (contract Ft (Some (codes "agc")) e f)) (climbed 5 (take 1 (drop 2 agc)) agc_left (lit≤ tt) agc_left_climbs)
-    ∙ ap (λ o. o >>= λ f. Some (contract Ft (Some (codes "agc")) agc_left f)) (climbed 29 (drop 2 (drop 2 agc)) agc_right (lit≤ tt) agc_right_climbs)
-
-once_read : output_item Pt once ≡ Some (formula Pt (Some (codes "once")) once_tree)
-once_read = once_form ∙ ap (λ o. o >>= λ e. Some (formula Pt (Some (codes "once")) e)) (climbed 29 (drop 2 once) once_tree (lit≤ tt) once_climbs)
 
 -- the pieces
 once_piece : pieces (Some (Output Pt)) 0 [] token.from_once ≡ item_of (Some (Output Pt)) 3 once ∷ []

@@ -13,7 +13,6 @@ pub mod SummaryLaws
 pub mod Playing
 pub mod OpenLaws
 pub mod Refusing
-pub mod FirstLine
 pub mod LineRuns
 pub mod TraceRuns
 pub mod ImageFiles

@@ -139,22 +139,24 @@ begun_for answer ended raws is = tt
 -- the loop ends by no refusal
 loop_begun : (answer : watched.Watched) (ended : Bool) (raws : List (List ℕ)) → BegunFor (ending_status answer) ended raws
 loop_begun watched.TheVariants.Done ended raws = tt
-loop_begun watched.TheVariants.TooLong ended raws = tt
-loop_begun (watched.TheVariants.BadTrace number why) ended raws = tt
-loop_begun watched.TheVariants.ReadFault ended raws = tt
-loop_begun watched.TheVariants.WriteFault ended raws = tt
+loop_begun answer ended raws = tt
 
--- no memory came
-lines_no_memory : (asked : RunAsked) (bytes : List ℕ) (cut : Cutting) (events : List Event) → FirstRead cut events → RanLines asked bytes status.TheVariants.Memory None events
-lines_no_memory asked bytes cut events has =
+-- the first line was read, or a part of it, and nothing more
+first_ran : (asked : RunAsked) (bytes : List ℕ) (answer : status.Status) (cut : Cutting) (events : List Event) → FirstRead cut events → LinesOutcome answer asked (program_over asked.kind bytes (lines_in events)) (trace_ended events) (trace_of events) (given Out events) None
+    → BegunFor answer (trace_ended events) (lines_in events) → RanLines asked bytes answer None events
+first_ran asked bytes answer cut events has outcome begun =
     let found = program_over asked.kind bytes (lines_in events) in
     record {
       only = first_only cut events has;
       prompt = Prompt-from_by (due_by asked found false) [] events (first_prompt asked found cut events has);
-      outcome = record { no_lines = first_given cut events has; no_monitor = refl };
-      begun = tt;
-      early = λ is. first_line_early cut events has;
+      outcome = outcome;
+      begun = begun;
+      early = λ memory. first_line_early cut events has;
     }
+
+-- no memory came
+lines_no_memory : (asked : RunAsked) (bytes : List ℕ) (cut : Cutting) (events : List Event) → FirstRead cut events → RanLines asked bytes status.TheVariants.Memory None events
+lines_no_memory asked bytes cut events has = first_ran asked bytes status.TheVariants.Memory cut events has (record { no_lines = first_given cut events has; no_monitor = refl }) tt
 
 -- there is no program by this status
 refused_outcome : (answer : status.Status) (asked : RunAsked) (found : Result Program status.Status) (ended : Bool) (bytes out : List ℕ) → Refuses answer → found ≡ Err answer → out ≡ [] → LinesOutcome answer asked found ended bytes out None
@@ -163,9 +165,6 @@ refused_outcome (status.TheVariants.BadProgram fault) asked found ended bytes ou
 refused_outcome (status.TheVariants.BadTrace number why) asked found ended bytes out speaks is none = inl (record { refused = is; silent = record { no_lines = none; no_monitor = refl } })
 refused_outcome status.TheVariants.Memory asked found ended bytes out speaks is none = record { no_lines = none; no_monitor = refl }
 refused_outcome answer asked found ended bytes out speaks is none = absurd speaks
-
-refused_early : (answer : status.Status) (cut : Cutting) (events : List Event) → FirstRead cut events → answer ≡ status.TheVariants.Memory → ReadsFirstLine events
-refused_early answer cut events has is = first_line_early cut events has
 
 -- a header that a cut gives begins with `#`
 row_marked : (row : Option (List ℕ)) → IsMarked (header_of_row row)
@@ -182,23 +181,15 @@ found_first asked bytes start events has first none =
 -- the header or a limit refused the program
 lines_refused : (asked : RunAsked) (bytes : List ℕ) (start : Cutting) (answer : status.Status) (events : List Event) → FirstRead start events → IsFirst start → file_refusal asked.kind bytes ≡ None → program_by asked.kind bytes (cut_header start) ≡ Err answer → RanLines asked bytes answer None events
 lines_refused asked bytes start answer events has first none is =
-    let found = program_over asked.kind bytes (lines_in events) in
-    let refused : found ≡ Err answer = found_first asked bytes start events has first none ∙ is in
-    record {
-      only = first_only start events has;
-      prompt = Prompt-from_by (due_by asked found false) [] events (first_prompt asked found start events has);
-      outcome = refused_outcome answer asked found (trace_ended events) (trace_of events) (given Out events) (program_refuses asked.kind bytes (cut_header start) answer (row_marked start.row) is) refused (first_given start events has);
-      begun = begun_for answer (trace_ended events) (lines_in events) (has_begun start events has first);
-      early = refused_early answer start events has;
-    }
+    first_ran asked bytes answer start events has
+    (refused_outcome answer asked (program_over asked.kind bytes (lines_in events)) (trace_ended events) (trace_of events) (given Out events) (program_refuses asked.kind bytes (cut_header start) answer (row_marked start.row) is)
+    (found_first asked bytes start events has first none ∙ is) (first_given start events has))
+    (begun_for answer (trace_ended events) (lines_in events) (has_begun start events has first))
 
 -- the loop never ends for want of memory
 never_memory : (answer : watched.Watched) → ending_status answer ≡ status.TheVariants.Memory → ⊥
 never_memory watched.TheVariants.Done is = cc
-never_memory watched.TheVariants.TooLong is = cc
-never_memory (watched.TheVariants.BadTrace number why) is = cc
-never_memory watched.TheVariants.ReadFault is = cc
-never_memory watched.TheVariants.WriteFault is = cc
+never_memory answer is = cc
 
 -- the loop ran
 module _ (asked : RunAsked) (bytes : List ℕ) (start : Cutting) (answer : status.Status) (kept : Option State) (first second : List Event) (program : Program) (has : FirstRead start first) (is_first : IsFirst start) (none : file_refusal asked.kind bytes ≡ None) (is : program_by asked.kind bytes (cut_header start) ≡ Ok program) (ran : RanLoop program asked start answer kept second) where
@@ -290,31 +281,15 @@ lines_long asked bytes number cut events none has numbered plain size =
     let refused : found ≡ Err (status.TheVariants.BadTrace 1 LongLine) =
     ap (λ o. unless_refused o (unless_long (begins_long (lines_in events)) (program_by asked.kind bytes (header_in (lines_in events))))) none
     ∙ ap (λ b. unless_long b (program_by asked.kind bytes (header_in (lines_in events)))) begins in
-    record {
-      only = first_only cut events has;
-      prompt = Prompt-from_by (due_by asked found false) [] events (first_prompt asked found cut events has);
-      outcome = inl (record { refused = refused ∙ ap (λ n. Err (status.TheVariants.BadTrace n LongLine)) (sym numbered); silent = record { no_lines = first_given cut events has; no_monitor = refl } });
-      begun = tt;
-      early = λ is. cc;
-    }
+    first_ran asked bytes (status.TheVariants.BadTrace number LongLine) cut events has
+    (inl (record { refused = refused ∙ ap (λ n. Err (status.TheVariants.BadTrace n LongLine)) (sym numbered); silent = record { no_lines = first_given cut events has; no_monitor = refl } })) tt
 
 -- it couldn't be read
 lines_unread : (asked : RunAsked) (bytes : List ℕ) (cut : Cutting) (events : List Event) → FirstRead cut events → HasNoNewline cut.pending → length cut.pending < 65536 → cut.ended ≡ false → RanLines asked bytes (status.TheVariants.ReadFault Trace) None events
 lines_unread asked bytes cut events has plain short unmet =
-    let found = program_over asked.kind bytes (lines_in events) in
-    record {
-      only = first_only cut events has;
-      prompt = Prompt-from_by (due_by asked found false) [] events (first_prompt asked found cut events has);
-      outcome = (
-        first_ended cut events has ∙ unmet,
-        inl (record {
-          no_line = ap (lines_of false) (first_taken cut events has) ∙ lines_of-none cut.pending plain short;
-          silent = record { no_lines = first_given cut events has; no_monitor = refl };
-        }),
-      );
-      begun = tt;
-      early = λ is. cc;
-    }
+    let none : lines_of false (trace_of events) ≡ [] = ap (lines_of false) (first_taken cut events has) ∙ lines_of-none cut.pending plain short in
+    first_ran asked bytes (status.TheVariants.ReadFault Trace) cut events has
+    (first_ended cut events has ∙ unmet, inl (record { no_line = none; silent = record { no_lines = first_given cut events has; no_monitor = refl } })) tt
 
 pub lines_stopped : (asked : RunAsked) (bytes : List ℕ) (answer : status.Status) (cut : Cutting) (events : List Event) → file_refusal asked.kind bytes ≡ None → FirstLog (Err answer) cut events → RanLines asked bytes answer None events
 lines_stopped asked bytes (status.TheVariants.BadTrace number LongLine) cut events none is = lines_long asked bytes number cut events none is.0 is.1 is.2 is.3

@@ -66,14 +66,8 @@ column_names names signal =
 
 front_names : (first : Result ℕ HeaderFault) (rest : Result (List ℕ) HeaderFault) → Names first → Names rest → Names (in_front first rest)
 front_names (Ok column) (Ok columns) a b = tt
-front_names (Ok column) (Err header_fault.NoHeader) a b = b
-front_names (Ok column) (Err (header_fault.Missing name)) a b = tt
-front_names (Ok column) (Err (header_fault.Twice name)) a b = tt
-front_names (Ok column) (Err header_fault.Memory) a b = tt
-front_names (Err header_fault.NoHeader) rest a b = a
-front_names (Err (header_fault.Missing name)) rest a b = tt
-front_names (Err (header_fault.Twice name)) rest a b = tt
-front_names (Err header_fault.Memory) rest a b = tt
+front_names (Ok column) (Err fault) a b = b
+front_names (Err fault) rest a b = a
 
 columns_names : (names signals : List (List ℕ)) → Names (columns_of names signals)
 columns_names names [] = tt
@@ -81,10 +75,7 @@ columns_names names (signal ∷ signals) = front_names (column_of names signal) 
 
 width_names : (width : ℕ) (found : Result (List ℕ) HeaderFault) → Names found → Names (of_width width found)
 width_names width (Ok columns) is = tt
-width_names width (Err header_fault.NoHeader) is = is
-width_names width (Err (header_fault.Missing name)) is = tt
-width_names width (Err (header_fault.Twice name)) is = tt
-width_names width (Err header_fault.Memory) is = tt
+width_names width (Err fault) is = is
 
 line_names : (signals : List (List ℕ)) (line : List ℕ) → begins_header line ≡ true → Names (header_meaning signals line)
 line_names signals line begins =
@@ -97,15 +88,13 @@ by_names signals (Some line) marked = line_names (map (λ s. s.name) signals) li
 
 -- a refusal of a specification that speaks of no header
 text_status : (fault : CompileFault) → IsHeaderless fault → Refuses (compile_status fault)
-text_status (compile.Refused line why) is = tt
 text_status (compile.BadHeader why) is = absurd is
-text_status compile.Memory is = tt
+text_status fault is = tt
 
 -- under a header too
 headed_status : (fault : CompileFault) → IsHeaderless fault → Refuses (trace_status fault)
-headed_status (compile.Refused line why) is = tt
 headed_status (compile.BadHeader why) is = absurd is
-headed_status compile.Memory is = tt
+headed_status fault is = tt
 
 -- what was found of a text, with its statuses
 abbrev HasStatus : Result Program CompileFault → Type 0
@@ -118,9 +107,7 @@ unless_speaks (Some fault) found a b = headed_status fault a
 under_speaks : (signals : List Signal) (outs : List Asked) (found : Result Columns HeaderFault) → Names found → HasStatus (image_under signals outs found)
 under_speaks signals outs (Ok columns) names = unless_speaks (limit_refusal (over_columns columns outs)) (Ok (image columns signals outs)) (limit_headerless (over_columns columns outs)) tt
 under_speaks signals outs (Err header_fault.NoHeader) names = absurd names
-under_speaks signals outs (Err (header_fault.Missing name)) names = tt
-under_speaks signals outs (Err (header_fault.Twice name)) names = tt
-under_speaks signals outs (Err header_fault.Memory) names = tt
+under_speaks signals outs (Err fault) names = tt
 
 text_speaks : (bytes : List ℕ) (header : Option (List ℕ)) → IsMarked header → HasStatus (image_of_text bytes header)
 unfolding image_of_text
@@ -132,9 +119,7 @@ text_speaks bytes header marked =
 over_speaks : (program : Program) (found : Result Columns HeaderFault) → Names found → IsFound (with_status header_status (bound_over program found))
 over_speaks program (Ok columns) names = tt
 over_speaks program (Err header_fault.NoHeader) names = absurd names
-over_speaks program (Err (header_fault.Missing name)) names = tt
-over_speaks program (Err (header_fault.Twice name)) names = tt
-over_speaks program (Err header_fault.Memory) names = tt
+over_speaks program (Err fault) names = tt
 
 bound_speaks : (header : Option (List ℕ)) (program : Program) → IsMarked header → IsFound (bound_under header program)
 bound_speaks None program marked = tt

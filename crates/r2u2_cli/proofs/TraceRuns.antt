@@ -1,61 +1,37 @@
 -- A run over a trace that is attached first.
 
-use Rattle.std.proofs.Common.{◌≡◌, ℕ, ◌⊎◌, Bool, true, false, if◌then◌else◌, Option, None, List, [], ◌∷◌, ◌++◌, refl, sym, ◌∙◌, ap, subst, inl, inr}
+use Rattle.std.proofs.Common.{◌≡◌, ℕ, ◌⊎◌, true, false, ◌||◌, Option, None, List, [], ◌∷◌, ◌++◌, refl, sym, ◌∙◌, ap, subst, inl, inr}
 use Rattle.std.proofs.lemmas.List.{append-nil}
 use Rattle.tool_io.specs.declared.host.Place as place
 use Rattle.tool_io.specs.declared.host.Place.TheVariants.{Trace, Out}
-use Rattle.tool_io.specs.declared.host.Place.TheVariants as at
-use Rattle.tool_io.specs.Log.{Event, Attached, Missed, Took, Gave, same_place, is_empty, taken, given, ended_from, names_of}
+use Rattle.tool_io.specs.Log.{Event, Attached, Missed, Took, Gave, same_place, taken, given, names_of, IsFront}
 use Rattle.tool_io.specs.Cutting.{HasNoNewline}
 use Rattle.tool_io.proofs.Prompting.{PromptBy-from, Prompt-from_by}
-use Rattle.tool_words.specs.declared.file_kind.FileKind.{FileKind}
-use Rattle.tool_words.specs.declared.file_kind.FileKind.TheVariants.{Spec, Program}
 use Rattle.tool_words.specs.R2u2Words.{RunAsked}
 use Rattle.r2u2_monitor.specs.declared.state.State.{State}
 use Rattle.r2u2_watch.specs.Watch.{OnlyRun}
 use Rattle.tool_words.specs.declared.status.Status as status
 use Rattle.tool_words.specs.Attaching.{OpensAsTold, ReadsAttached, is_attached}
-use Rattle.tool_words.specs.Files.{file_place}
 use Rattle.tool_words.specs.Telling.{is_used}
-use Rattle.tool_words.proofs.AttachLaws.{missed_none, no_reads_none}
+use Rattle.tool_words.proofs.AttachLaws.{unattached_unread}
+use Rattle.tool_words.proofs.FileLaws.{Visits, visit_missed, visit_none}
 use Rattle.r2u2_cli.specs.ProgramBy.{program_over}
 use Rattle.r2u2_cli.specs.Outcome.{due_by, LinesOutcome}
 use Rattle.r2u2_cli.specs.Taken.{trace_of, trace_ended, lines_in, ReadsFirstLine}
 use Rattle.r2u2_cli.specs.Phases.{RanLines, TraceOutcome, RanTrace}
 
--- the file isn't at the place of the trace, nor at those that are written
-pub file_elsewhere : (kind : FileKind) → same_place (file_place kind) Trace ≡ false
-file_elsewhere Spec = refl
-file_elsewhere Program = refl
-
-pub trace_elsewhere : (kind : FileKind) → same_place Trace (file_place kind) ≡ false
-trace_elsewhere Spec = refl
-trace_elsewhere Program = refl
-
--- what reads of the trace and writes of verdicts don't tell
+-- reads of the trace and writes of verdicts try no place, and are at no other
 run_names : (events : List Event) → OnlyRun events → names_of events ≡ []
 run_names [] only = refl
 run_names (Took Trace piece ∷ events) only = run_names events only
 run_names (Gave Out piece ∷ events) only = run_names events only
 run_names (event ∷ events) only = absurd only
 
-run_file : (p : place.Place) → same_place p Trace ≡ false → (events : List Event) → OnlyRun events → taken p events ≡ []
-run_file p other [] only = refl
-run_file p other (Took Trace piece ∷ events) only = ap (λ b. if b then piece ++ taken p events else taken p events) other ∙ run_file p other events only
-run_file p other (Gave Out piece ∷ events) only = run_file p other events only
-run_file p other (event ∷ events) only = absurd only
-
-run_file_end : (p : place.Place) → same_place p Trace ≡ false → (events : List Event) (ended : Bool) → OnlyRun events → ended_from ended p events ≡ ended
-run_file_end p other [] ended only = refl
-run_file_end p other (Took Trace piece ∷ events) ended only = ap (λ b. ended_from (if b then is_empty piece else ended) p events) other ∙ run_file_end p other events ended only
-run_file_end p other (Gave Out piece ∷ events) ended only = run_file_end p other events ended only
-run_file_end p other (event ∷ events) ended only = absurd only
-
-run_quiet : (events : List Event) → OnlyRun events → is_used at.Err events ≡ false
-run_quiet [] only = refl
-run_quiet (Took Trace piece ∷ events) only = run_quiet events only
-run_quiet (Gave Out piece ∷ events) only = run_quiet events only
-run_quiet (event ∷ events) only = absurd only
+run_unused : (p : place.Place) → same_place p Trace ≡ false → same_place p Out ≡ false → (events : List Event) → OnlyRun events → is_used p events ≡ false
+run_unused p trace out [] only = refl
+run_unused p trace out (Took Trace piece ∷ events) only = ap (λ v. v || is_used p events) trace ∙ run_unused p trace out events only
+run_unused p trace out (Gave Out piece ∷ events) only = ap (λ v. v || is_used p events) out ∙ run_unused p trace out events only
+run_unused p trace out (event ∷ events) only = absurd only
 
 run_reads : (before after : List Event) (p : place.Place) (piece : List ℕ) → OnlyRun (before ++ Took p piece ∷ after) → p ≡ Trace
 run_reads [] after Trace piece only = refl
@@ -98,39 +74,29 @@ trace_ran asked bytes answer kept events log is ran =
     subst (RanTrace asked bytes answer kept) (sym is) (record {
       names = record { rest = []; split = ap (λ names. (Trace, asked.trace) ∷ names) (sym (append-nil (names_of log) ∙ run_names log ran.only)) };
       attached = attached_first asked.trace log ran.only;
-      no_file = run_file (file_place asked.kind) (file_elsewhere asked.kind) log ran.only;
-      no_file_end = λ ended. run_file_end (file_place asked.kind) (file_elsewhere asked.kind) log ended ran.only;
+      only = λ p trace out. ap (λ v. v || is_used p log) trace ∙ run_unused p trace out log ran.only;
       prompt = Prompt-from_by due_of [] (Attached Trace asked.trace ∷ log) (PromptBy-from due_of [] log ran.prompt);
       outcome = trace_outcome answer asked bytes (Attached Trace asked.trace ∷ log) kept ran.outcome;
       opened = opens_first answer asked bytes log kept asked.trace log ran.outcome;
       begun = ran.begun;
       early = λ memory. early_first asked.trace log (ran.early memory);
-      quiet = run_quiet log ran.only;
     })
 
 -- the trace couldn't be attached
+trace_not : (asked : RunAsked) (bytes : List ℕ) (tried : List (place.Place × List ℕ)) (events : List Event) → Visits Trace tried [] false false events → IsFront tried ((Trace, asked.trace) ∷ []) → given Out events ≡ [] → RanTrace asked bytes (status.TheVariants.OpenFault Trace) None events
+trace_not asked bytes tried events visit front silent =
+    let unread = unattached_unread Trace events visit.reads visit.attached in
+    record {
+      names = record { rest = front.rest; split = front.split ∙ ap (λ ns. ns ++ front.rest) (sym visit.names_are) };
+      attached = visit.reads;
+      only = λ p trace out. visit.only p trace;
+      prompt = λ before after piece is. absurd (unread before after piece is);
+      outcome = record { no_lines = silent; no_monitor = refl };
+      opened = visit.attached;
+      begun = tt;
+      early = λ memory. cc;
+    }
+
 pub trace_missed : (asked : RunAsked) (bytes : List ℕ) (events : List Event) → (events ≡ Missed Trace asked.trace ∷ []) ⊎ (events ≡ []) → RanTrace asked bytes (status.TheVariants.OpenFault Trace) None events
-trace_missed asked bytes events (inl is) = subst (RanTrace asked bytes (status.TheVariants.OpenFault Trace) None) (sym is) (record {
-  names = record { rest = []; split = refl };
-  attached = missed_none Trace asked.trace;
-  no_file = refl;
-  no_file_end = λ ended. refl;
-  prompt = Prompt-from_by (due_by asked (program_over asked.kind bytes []) false) [] (Missed Trace asked.trace ∷ []) tt;
-  outcome = record { no_lines = refl; no_monitor = refl };
-  opened = refl;
-  begun = tt;
-  early = λ memory. cc;
-  quiet = refl;
-})
-trace_missed asked bytes events (inr is) = subst (RanTrace asked bytes (status.TheVariants.OpenFault Trace) None) (sym is) (record {
-  names = record { rest = (Trace, asked.trace) ∷ []; split = refl };
-  attached = no_reads_none;
-  no_file = refl;
-  no_file_end = λ ended. refl;
-  prompt = Prompt-from_by (due_by asked (program_over asked.kind bytes []) false) [] [] tt;
-  outcome = record { no_lines = refl; no_monitor = refl };
-  opened = refl;
-  begun = tt;
-  early = λ memory. cc;
-  quiet = refl;
-})
+trace_missed asked bytes events (inl is) = trace_not asked bytes ((Trace, asked.trace) ∷ []) events (visit_missed Trace asked.trace events is) (record { rest = []; split = refl }) (ap (given Out) is)
+trace_missed asked bytes events (inr is) = trace_not asked bytes [] events (visit_none Trace events is) (record { rest = (Trace, asked.trace) ∷ []; split = refl }) (ap (given Out) is)

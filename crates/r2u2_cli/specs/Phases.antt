@@ -6,7 +6,7 @@ use Rattle.std.specs.List.{concat}
 use Rattle.mltl_base.specs.declared.limits.TheConstants.{MAX_LINE_BYTES}
 use Rattle.mltl_base.specs.declared.program.Program.{Program}
 use Rattle.tool_io.specs.declared.host.Place as place
-use Rattle.tool_io.specs.Log.{Event, taken, given, ended_from, names_of, IsFront, Reads, meets_end, Prompt}
+use Rattle.tool_io.specs.Log.{Event, same_place, given, names_of, IsFront, Reads, meets_end, Prompt}
 use Rattle.tool_io.specs.Cutting.{Cutting, HasNoNewline, IsRow, OnlyWhereNeeded, line_text, next_number}
 use Rattle.c2po_ast.specs.ItemShape.{spec_shape}
 use Rattle.obs_files.specs.Faults.{opened}
@@ -23,7 +23,6 @@ use Rattle.r2u2_cli.specs.declared.program_file.Opened.{Opened}
 use Rattle.r2u2_cli.specs.declared.program_file.Opened.TheVariants as file
 use Rattle.tool_words.specs.declared.status.Status as status
 use Rattle.tool_words.specs.Attaching.{OpensAsTold, ReadsAttached}
-use Rattle.tool_words.specs.Files.{file_place}
 use Rattle.tool_words.specs.Telling.{is_used}
 use Rattle.r2u2_cli.specs.ProgramBy.{file_refusal, program_by, program_over}
 use Rattle.r2u2_cli.specs.Outcome.{due_by, rows_by, Silent, LinesOutcome}
@@ -139,19 +138,18 @@ TraceOutcome answer asked bytes events kept =
     LinesOutcome answer asked (program_over asked.kind bytes (lines_in events)) (trace_ended events) (trace_of events)
     (given place.TheVariants.Out events) kept
 
--- the log of a run over a trace that is to be attached; nothing is read of the file
+-- the log of a run over a trace that is to be attached; nothing happens at other places
 pub record RanTrace (asked : RunAsked) (bytes : List ℕ) (answer : status.Status) (kept : Option State)
     (events : List Event) : Type 0 where
   pub names : IsFront (names_of events) ((place.TheVariants.Trace, asked.trace) ∷ [])
   pub attached : ReadsAttached [] events
-  pub no_file : taken (file_place asked.kind) events ≡ []
-  pub no_file_end : (ended : Bool) → ended_from ended (file_place asked.kind) events ≡ ended
+  pub only : (p : place.Place) → same_place p place.TheVariants.Trace ≡ false
+      → same_place p place.TheVariants.Out ≡ false → is_used p events ≡ false
   pub prompt : Prompt (due_by asked (program_over asked.kind bytes (lines_in events)) false) [] events
   pub outcome : TraceOutcome answer asked bytes events kept
   pub opened : OpensAsTold answer events
   pub begun : BegunFor answer (trace_ended events) (lines_in events)
   pub early : answer ≡ status.TheVariants.Memory → ReadsFirstLine events
-  pub quiet : is_used place.TheVariants.Err events ≡ false
 
 -- the file is refused by itself, or it was out of memory
 pub record NotOpened (asked : RunAsked) (bytes : List ℕ) (answer : status.Status) (kept : Option State)

@@ -3,7 +3,6 @@
 use Rattle.std.proofs.Common.{◌≡◌, ℕ, ◌⊎◌, Bool, true, false, ◌||◌, List, [], ◌∷◌, ◌++◌, map, refl, sym, ◌∙◌, ap, subst, inl, inr}
 use Rattle.std.proofs.Math.Bool.{or-false}
 use Rattle.tool_io.specs.declared.host.Place as place
-use Rattle.tool_io.specs.declared.host.Place.TheVariants as at
 use Rattle.tool_io.specs.Log.{Event, Attached, Missed, Took, Gave, same_place}
 use Rattle.tool_io.proofs.LogLaws.{same_place-self}
 use Rattle.tool_words.specs.declared.status.Status as status
@@ -44,6 +43,11 @@ ReadsAttached-append first second a b before after p piece is =
       | inr found ↦ ap (is_attached p) found.1 ∙ is_attached-append p first found.0 ∙ ap (λ v. is_attached p first || v) (b found.0 after p piece found.2) ∙ or_true (is_attached p first)
     ]
 
+-- a place that wasn't attached wasn't read
+pub unattached_unread : (p : place.Place) (events : List Event) → ReadsAttached [] events → is_attached p events ≡ false → (before after : List Event) (piece : List ℕ) → events ≡ before ++ Took p piece ∷ after → ⊥
+unattached_unread p events reads none before after piece is =
+    let no : true ≡ false = sym (ap (is_attached p) is ∙ is_attached-append p before (Took p piece ∷ after) ∙ ap (λ v. v || is_attached p after) (reads before after p piece is)) ∙ none in cc
+
 -- what reading a file tells
 pub file_reads : (q : place.Place) (before after : List Event) (pieces : List (List ℕ)) (p : place.Place) (piece : List ℕ) → map (Took q) pieces ≡ before ++ Took p piece ∷ after → p ≡ q
 file_reads q [] after [] p piece is = cc
@@ -77,9 +81,9 @@ writes_unread q (first ∷ pieces) [] after p piece is = cc
 writes_unread q (first ∷ pieces) (event ∷ before) after p piece is = writes_unread q pieces before after p piece (let rest : map (Gave q) pieces ≡ before ++ Took p piece ∷ after = cc in rest)
 
 -- writes attach nothing
-pub writes_unattached : (p : place.Place) (pieces : List (List ℕ)) → is_attached p (map (Gave at.Err) pieces) ≡ false
-writes_unattached p [] = refl
-writes_unattached p (piece ∷ pieces) = writes_unattached p pieces
+pub writes_unattached : (p q : place.Place) (pieces : List (List ℕ)) → is_attached p (map (Gave q) pieces) ≡ false
+writes_unattached p q [] = refl
+writes_unattached p q (piece ∷ pieces) = writes_unattached p q pieces
 
 pub opened_still : (answer : status.Status) (first second : List Event) → ((p : place.Place) → is_attached p second ≡ false) → OpensAsTold answer first → OpensAsTold answer (first ++ second)
 opened_still (status.TheVariants.OpenFault p) first second none is = is_attached-append p first second ∙ ap (λ v. is_attached p first || v) (none p) ∙ or-false (is_attached p first) ∙ is

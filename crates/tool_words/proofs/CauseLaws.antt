@@ -6,13 +6,10 @@ use Rattle.tool_io.specs.declared.host.Place.TheVariants as at
 use Rattle.tool_io.specs.Host.{Rose, RoseAt}
 use Rattle.tool_words.specs.declared.status.Status as status
 use Rattle.tool_io.proofs.HostLaws.{Rose-by_one}
-use Rattle.c2po_compile.specs.declared.fault.CompileFault.{CompileFault}
-use Rattle.c2po_compile.specs.declared.fault.CompileFault.TheVariants as compile
 use Rattle.tool_words.specs.Causes.{RunCause, NoOtherRose, TellsNoCall}
-use Rattle.tool_words.specs.Statuses.{compile_status}
 
 -- a rise at a place other than Err
-pub rose_at : (before between now : place.Place → ℕ) (p : place.Place) → RoseAt before between p → ((q : place.Place) → q ≢ at.Err → now q ≡ between q) → NoOtherRose before now → p ≢ at.Err → ⊥
+rose_at : (before between now : place.Place → ℕ) (p : place.Place) → RoseAt before between p → ((q : place.Place) → q ≢ at.Err → now q ≡ between q) → NoOtherRose before now → p ≢ at.Err → ⊥
 rose_at before between now p rose same none other = none p other (subst (λ n. Rose (before p) n) (sym (same p other)) (Rose-by_one (before p) (between p) rose.rose))
 
 -- a failed message after a run
@@ -29,8 +26,12 @@ err_stays (status.TheVariants.WriteFault at.Err) before between cause = absurd c
 err_stays (status.TheVariants.WriteFault p) before between cause = cause.others at.Err (λ e. cc)
 err_stays answer before between cause = cause at.Err
 
--- a compilation calls no host
-pub compile_tells_no_call : (fault : CompileFault) → TellsNoCall (compile_status fault)
-compile_tells_no_call (compile.Refused line why) = tt
-compile_tells_no_call (compile.BadHeader why) = tt
-compile_tells_no_call compile.Memory = tt
+-- where no count rose but that of Err, the status concerns no call
+pub no_call : (answer : status.Status) (before between now : place.Place → ℕ) → RunCause answer before between → ((q : place.Place) → q ≢ at.Err → now q ≡ between q) → NoOtherRose before now → TellsNoCall answer
+no_call (status.TheVariants.OpenFault at.Err) before between now cause same none = cause
+no_call (status.TheVariants.OpenFault p) before between now cause same none = rose_at before between now p cause same none (λ e. cc)
+no_call (status.TheVariants.ReadFault at.Err) before between now cause same none = cause
+no_call (status.TheVariants.ReadFault p) before between now cause same none = rose_at before between now p cause same none (λ e. cc)
+no_call (status.TheVariants.WriteFault at.Err) before between now cause same none = cause
+no_call (status.TheVariants.WriteFault p) before between now cause same none = rose_at before between now p cause same none (λ e. cc)
+no_call answer before between now cause same none = tt

@@ -1,7 +1,6 @@
 pub mod CommandLaws
 pub mod NumberLaws
 pub mod Examples
-pub mod HelpLaws
 pub mod TextLaws
 pub mod StatusLaws
 pub mod PhaseLaws
@@ -10,3 +9,4 @@ pub mod CauseLaws
 pub mod LineLaws
 pub mod MessageLaws
 pub mod UseLaws
+pub mod FileLaws

@@ -7,6 +7,7 @@ use Rattle.tool_io.specs.Cutting.{CutsLine}
 use Rattle.tool_io.proofs.LogLaws.{OnLog-none, OnLog-map}
 use Rattle.c2po_cli.specs.Images.{WritesImage}
 use Rattle.c2po_cli.specs.Made.{text_bytes}
+use Rattle.c2po_cli.specs.Phases.{IsRefusal}
 use Rattle.c2po_cli.proofs.HeadLaws.{Made, end_made, fault_made, line_short, long_made, made_so, none_made, row_made}
 use Rattle.c2po_cli.proofs.header_file.under_first_line.Goals as goal
 
@@ -31,8 +32,8 @@ returns-in-Row-clause-log g c text none same =
     let made = c.compiled_bytes.ensures in
     OnLog-map _ _ _ c.in-Row.ensures.log
     (λ events cuts. row_made cut events c.args.form text none c.compiled_bytes.result (subst (λ start. CutsLine Header start cut line.TheVariants.Row events) c.in_ok-cut.ensures cuts)
-    (subst (λ l. Made c.compiled_bytes.result (text_bytes c.args.form text (Some l))) c.line.ensures
-    (made_so c.args.form (Some c.line.result.now) (spec_shape c.args.spec.now) text c.compiled_bytes.result made.made made.refused made.refuses none same))
+    (subst (λ l. Made IsRefusal c.compiled_bytes.result (text_bytes c.args.form text (Some l))) c.line.ensures
+    (made_so IsRefusal c.args.form (Some c.line.result.now) (spec_shape c.args.spec.now) text c.compiled_bytes.result made.made made.refused made.refuses none same))
     (subst (λ l. IfOk c.compiled_bytes.result (λ bytes. WritesImage c.args.form text (Some l) bytes.items)) c.line.ensures
     (IfOk-weaker c.compiled_bytes.result _ _ (λ bytes image. image text none same) made.image)))
 

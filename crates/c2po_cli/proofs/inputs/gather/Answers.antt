@@ -14,7 +14,7 @@ returns-in_err-bytes-clause-log g c =
     let asked = make_of c.args.asked.now in
     let answer = c.in_err-bytes.field-0.0 in
     rw (p.1, p.2) (OnLog-map _ _ _ c.in_err-bytes.ensures.log
-    (λ events read. gather_unread asked answer events (subst (λ kind. FileLog (Err answer) (file_place kind) (file_limit kind) asked.file events) c.file_kind.ensures read)))
+    (λ events read. gather_unread asked events answer (subst (λ kind. FileLog (Err answer) (file_place kind) (file_limit kind) asked.file events) c.file_kind.ensures read)))
 
 pub returns-clause-log : goal.returns-clause-log
 returns-clause-log g c =
