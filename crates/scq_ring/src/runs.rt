@@ -1,6 +1,6 @@
 //! A ring of merged runs, and its slots.
 
-ghost use Rattle.std.specs.Prelude.{◌≡◌, ◌≢◌, ℕ, ◌+◌, ◌-◌, ◌^◌, ◌<◌, ◌≤◌, max, length, List, nat_lt, if◌then◌else◌};
+ghost use Rattle.std.specs.Prelude.{◌≡◌, ◌≢◌, ℕ, ◌+◌, ◌-◌, ◌^◌, ◌<◌, ◌≤◌, ◌⊎◌, max, length, List, nat_lt, if◌then◌else◌};
 ghost use Rattle.mltl_base.specs.declared.limits.TheConstants.{TIME_END};
 ghost use Rattle.scq_ring.specs.Runs.{Belongs, IsAround, IsClear, IsClosed, IsTurned, IsWritten, KeepsNewest, Shows, TakesRun, frontier_of, low_of, ring_index_of, runs_of, runs_to, upto_at, verdict_at};
 ghost use Rattle.scq_ring.specs.declared.runs.Slot.{Slot};
@@ -193,10 +193,25 @@ impl Ring {
         if self.since == self.frontier {
             return;
         }
+        self.make_room(slots);
+        self.add(slots);
+    }
+
+    /// Lets the oldest run go where all slots hold runs, so that one is free.
+    fn make_room(&mut self, slots: &[Slot])
+        requires belongs { Belongs self.old slots.now }
+        ensures belongs { Belongs self.new slots.now }
+        ensures newest { KeepsNewest self.old self.new }
+        ensures free { self.new.used < length slots.now }
+        ensures rises { low_of self.old ≤ low_of self.new }
+        ensures bounded { (low_of self.new ≡ low_of self.old)
+            ⊎ (low_of self.new + length slots.now ≤ self.old.since + 1) }
+        ensures kept { (t : ℕ) → low_of self.new ≤ t
+            → verdict_at self.new slots.now t ≡ verdict_at self.old slots.now t }
+    {
         if self.used == slots.len() {
             self.forget(slots);
         }
-        self.add(slots);
     }
 
     /// Puts the newest run, which has some time, into a slot that is free.

@@ -4,7 +4,6 @@ use Rattle.scq_ring.specs.declared.runs.Ring.{Ring}
 use Rattle.scq_ring.specs.declared.runs.Slot.{Slot}
 use Rattle.std.proofs.lemmas.Bool.{cases_lt}
 use Rattle.scq_ring.proofs.RunLemmas.{Alternate-none, Spans-room, verdict_before}
-use Rattle.scq_ring.proofs.runs.Ring.close.Goals.{then-self-slots, else-self-slots}
 use Rattle.scq_ring.proofs.runs.Ring.close.Goals as goal
 
 pub returns-then-self : goal.returns-then-self
@@ -60,16 +59,13 @@ returns c =
     let slots = c.args.slots.now in
     let begun = c.requires.belongs.begun in
     let some_time = c.if-self.false in
-    let closed = λ (lets : LetsGo ring slots c.if-self-slots.self). closed_after ring c.if-self-slots.self c.add.new.self slots c.add.new.slots lets c.add.ensures.low c.add.ensures.closed in
-    elim c.if-self-slots.branch [
-      | then-self-slots w ↦
-          let forgot = w.forget.ensures in
-          let newest = forgot.newest in
-          let full : ring.used ≡ length slots = w.if-self-slots.true in
-          let fewer = forgot.fewer in
-          let bounded = forgot.bounded in
-          let room : w.forget.new.self.low + length slots ≤ ring.frontier = omega (arith, some_time) in
-          record { closed = closed (subst (LetsGo ring slots) (sym w.self-is) record { frontier = newest.frontier; value = newest.value; rises = forgot.rises; bounded = inr room; kept = forgot.kept }) }
-      | else-self-slots w ↦
-          record { closed = closed (subst (LetsGo ring slots) (sym w.self-is) record { frontier = refl; value = refl; rises = omega arith; bounded = inl refl; kept = λ t from. refl }) }
-    ]
+    let room = c.make_room.ensures in
+    let newest = room.newest in
+    let lets : LetsGo ring slots c.make_room.new.self = record {
+      frontier = newest.frontier;
+      value = newest.value;
+      rises = room.rises;
+      bounded = elim room.bounded [ inl same ↦ inl same | inr few ↦ inr (omega (arith, few, begun, some_time)) ];
+      kept = room.kept;
+    } in
+    record { closed = closed_after ring c.make_room.new.self c.add.new.self slots c.add.new.slots lets c.add.ensures.low c.add.ensures.closed }
