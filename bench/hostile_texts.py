@@ -46,6 +46,8 @@ SIGNALS = 'INPUT p, q: bool; x: int;\n'
 COUNTED = SIGNALS + 'STRUCT t: { a: bool; b: bool; };\nDEFINE s := {' + members(254) + '};\n'
 LARGEST = SIGNALS + 'DEFINE s := {' + members(181) + '};\n'
 NUMBERS = SIGNALS + 'DEFINE s := {' + members(128, '#') + '};\n'
+DIVISORS = SIGNALS + 'DEFINE s := {' + members(90, '1#') + '};\n'
+MIXED = SIGNALS + 'DEFINE s := {' + ', '.join(['p, !p'] * 57) + '};\n'
 DEEPEST = 400
 DEEP = SIGNALS + 'STRUCT t0: { f: bool; };\n' + ''.join(
     'STRUCT t%d: { f: t%d; };\n' % (k + 1, k) for k in range(DEEPEST)) + 'DEFINE d0 := t0(p);\n' + ''.join(
@@ -153,6 +155,10 @@ TEXTS = [
            numbered('a#:=foreach(v:s)(foreach(w:s)(p));\n'), 'FTSPEC p;\n'),
     filled('number-pairs', 'unused definitions over pairs of numbers', NUMBERS + 'DEFINE\n',
            numbered('a#:=foreach(v:s)(foreach(w:s)(v<w));\n'), 'FTSPEC p;\n'),
+    filled('divisor-pairs', 'the same, where the range of all numbers is no divisor, but each of them is', DIVISORS + 'DEFINE\n',
+           numbered('a#:=foreach(v:s)(foreach(w:s)(x/v<x/w));\n'), 'FTSPEC p;\n'),
+    filled('mixed-pairs', 'unused definitions over pairs of members that weigh one and two in turn', MIXED + 'DEFINE\n',
+           numbered('a#:=foreach(v:s)(foreach(w:s)(v||w));\n'), 'FTSPEC p;\n'),
     filled('number-picks', 'chains of picked fields in bodies over pairs of numbers', DEEP,
            numbered('DEFINE a#:=foreach(n:s)(foreach(v:u)(n>0||v%s));\n' % ('.f' * (DEEPEST + 1))), 'FTSPEC p;\n'),
     Text('different-picks', 'the same over different structs, 8 definitions in 28 KB', lambda: different_picks(8)),

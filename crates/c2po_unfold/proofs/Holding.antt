@@ -5,6 +5,7 @@ use Rattle.c2po_unfold.specs.declared.fact.Fact.{Fact}
 use Rattle.c2po_unfold.specs.declared.values.Stored.{Stored}
 use Rattle.c2po_unfold.specs.declared.unfolding.Unfolding.{Unfolding}
 use Rattle.c2po_unfold.specs.Facts.{Tells}
+use Rattle.c2po_unfold.specs.Covering.{exact}
 use Rattle.c2po_unfold.specs.Summaries.{IsSummary}
 use Rattle.c2po_unfold.specs.Environment.{signal_value}
 use Rattle.c2po_unfold.specs.Holding.{Holds}
@@ -12,6 +13,6 @@ use Rattle.c2po_unfold.specs.Values.{Leaf, leaf, signal, tree_in}
 
 -- a signal that is stored
 pub signal_leaf : (u : Unfolding) (s : Stored) (f : Fact) (b : Bool) (n : ℕ) →
-    ((l : Leaf) → IsSummary (record { weight = 1; fact = f }) (leaf l) → Holds u s (leaf l)) →
+    ((l : Leaf) → IsSummary exact (record { weight = 1; fact = f }) (leaf l) → Holds u s (leaf l)) →
     Tells f (tree_in (signal_value b n)) → Holds u s (signal_value b n)
 signal_leaf u s f b n h k = h (signal b n) (record { weight = refl; fact = k })

@@ -6,13 +6,17 @@ use Rattle.c2po_unfold.specs.declared.values.Stored.{Stored}
 use Rattle.c2po_unfold.specs.declared.values.Whole.TheVariants as whole
 use Rattle.c2po_unfold.specs.declared.values.Entry.{Entry}
 use Rattle.c2po_unfold.specs.declared.values.Entry.TheVariants as entry
-use Rattle.c2po_unfold.specs.declared.scope.Scope.{Scope, Top, Open', Held'}
+use Rattle.c2po_unfold.specs.declared.scope.Scope.{Scope, Top, Open', Held', Covered'}
 use Rattle.c2po_unfold.specs.declared.scope.Head.{Head}
 use Rattle.c2po_unfold.specs.declared.scope.Head.TheVariants as head
 use Rattle.c2po_unfold.specs.declared.unfolding.Unfolding.{Unfolding}
-use Rattle.c2po_unfold.specs.Values.{Value, Values, leaf, structure, set, none, more}
+use Rattle.c2po_unfold.specs.declared.summary.Summary.{Summary}
+use Rattle.c2po_unfold.proofs.Knowing.{says_covering}
+use Rattle.c2po_unfold.specs.Values.{Value, Values, leaf, leaf_tree, structure, set, none, more}
 use Rattle.c2po_unfold.specs.Environment.{Env, Known}
 use Rattle.c2po_unfold.specs.Holding.{Holds, HoldAll, Means, StandsFor, Fits, Keeps, IsLater}
+use Rattle.c2po_unfold.specs.Covering.{Mode, covering}
+use Rattle.c2po_unfold.specs.Summaries.{IsOfLeaf}
 use Rattle.c2po_unfold.specs.Heads.{Heads}
 
 pub later_same : (u : Unfolding) → IsLater u u
@@ -67,16 +71,29 @@ stands_kept old new env same g h = record {
 pub stands_later : (old new : Unfolding) (env : Env) → IsLater old new → StandsFor old env → StandsFor new env
 stands_later old new env g h = stands_kept old new env g.names g.keeps h
 
-pub fits_later : (scope : Scope) (old new : Unfolding) (env : Env) → IsLater old new → Fits old scope env → Fits new scope env
-fits_later Top old new env g h = stands_later old new env g h
-fits_later (Open' x e p within q outer) old new env g h =
-    (h.0, h.1, fits_later within old new h.0 g h.2, fits_later outer old new h.1 g h.3, h.4)
-fits_later (Held' x s q outer) old new env g h =
-    (h.0, h.1, holds_later h.0 old new s g h.2, fits_later outer old new h.1 g h.3, h.4)
+pub fits_later : (m : Mode) (scope : Scope) (old new : Unfolding) (env : Env) → IsLater old new → Fits m old scope env → Fits m new scope env
+fits_later m Top old new env g h = stands_later old new env g h
+fits_later m (Open' x e p within q outer) old new env g h =
+    (h.0, h.1, fits_later m within old new h.0 g h.2, fits_later m outer old new h.1 g h.3, h.4)
+fits_later m (Held' x s q outer) old new env g h =
+    (h.0, h.1, holds_later h.0 old new s g h.2, fits_later m outer old new h.1 g h.3, h.4)
+fits_later m (Covered' x s q outer) old new env g h = (h.0, h.1, h.2, fits_later m outer old new h.1 g h.3, h.4)
 
-pub heads_later : (h : Head) (old new : Unfolding) (v : Value) → IsLater old new → Heads old h v → Heads new h v
-heads_later (head.Nothing scope e) old new v g k = (k.0, fits_later scope.now old new k.0 g k.1, k.2, k.3)
-heads_later (head.Struct scope e x es) old new v g k = (k.0, fits_later scope.now old new k.0 g k.1, k.2, k.3)
-heads_later (head.Set scope e es) old new v g k = (k.0, fits_later scope.now old new k.0 g k.1, k.2, k.3)
-heads_later (head.Leaf scope e) old new v g k = (k.0, fits_later scope.now old new k.0 g k.1, k.2, k.3)
-heads_later (head.Held s) old new v g k = holds_later v old new s g k
+pub heads_later : (m : Mode) (h : Head) (old new : Unfolding) (v : Value) → IsLater old new → Heads m old h v → Heads m new h v
+heads_later m (head.Nothing scope e) old new v g k = (k.0, fits_later m scope.now old new k.0 g k.1, k.2, k.3)
+heads_later m (head.Struct scope e x es) old new v g k = (k.0, fits_later m scope.now old new k.0 g k.1, k.2, k.3)
+heads_later m (head.Set scope e es) old new v g k = (k.0, fits_later m scope.now old new k.0 g k.1, k.2, k.3)
+heads_later m (head.Leaf scope e) old new v g k = (k.0, fits_later m scope.now old new k.0 g k.1, k.2, k.3)
+heads_later m (head.Held s) old new v g k = holds_later v old new s g k
+heads_later m (head.Covered s) old new v g k = k
+
+-- what is known as it is, is known so that it covers, and a variable may be any value that what is known of it covers
+pub leaf_covered : (m : Mode) (s : Summary) (v : Value) → IsOfLeaf m s v → IsOfLeaf covering s v
+leaf_covered m s v h = (h.0, h.1, record { weight = h.2.weight; fact = says_covering m s.fact (Some (leaf_tree h.0)) h.2.fact })
+
+pub fits_covering : (m : Mode) (scope : Scope) (u : Unfolding) (env : Env) → Fits m u scope env → Fits covering u scope env
+fits_covering m Top u env h = h
+fits_covering m (Open' x e p within q outer) u env h =
+    (h.0, h.1, fits_covering m within u h.0 h.2, fits_covering m outer u h.1 h.3, h.4)
+fits_covering m (Held' x s q outer) u env h = (h.0, h.1, h.2, fits_covering m outer u h.1 h.3, h.4)
+fits_covering m (Covered' x s q outer) u env h = (h.0, h.1, leaf_covered m s.now h.0 h.2, fits_covering m outer u h.1 h.3, h.4)

@@ -10,3 +10,4 @@ pub mod Members
 pub mod Parts
 pub mod Placing
 pub mod ValueWalk
+pub mod Within

@@ -9,7 +9,7 @@ use Rattle.mltl_base.specs.declared.operators.CountOp.{CountOp}
 use Rattle.mltl_base.specs.Formula.{Formula, falsity, disjunction}
 use Rattle.count_sets.specs.Counting.{counting}
 use Rattle.c2po_unfold.specs.declared.fact.Fact.{Fact}
-use Rattle.c2po_unfold.specs.Facts.{Tells}
+use Rattle.c2po_unfold.specs.Covering.{Mode, exact, Says}
 use Rattle.c2po_nodes.specs.Nodes.{Tree, formula, formula_in, connected}
 use Rattle.c2po_ast.specs.declared.tree.Expr.{Expr}
 use Rattle.c2po_ast.specs.Shape.{shape, shapes}
@@ -78,8 +78,8 @@ hold_push (d ∷ es) u ss s e env h k =
 pub record BuiltSoFar (old now : Unfolding) (scope : Scope) (es : List Expr) (done : List Stored) (room left : ℕ) : Type 0 where
   pub later : IsLater old now
   pub inside : left < room
-  pub holds : (env : Env) → Fits old scope env → HoldAll now done (values_of (shapes es) env)
-  pub weight : (env : Env) → Fits old scope env → room ≡ left + (1 + parts_weight (values_of (shapes es) env))
+  pub holds : (env : Env) → Fits exact old scope env → HoldAll now done (values_of (shapes es) env)
+  pub weight : (env : Env) → Fits exact old scope env → room ≡ left + (1 + parts_weight (values_of (shapes es) env))
 
 pub built_start : (u : Unfolding) (scope : Scope) (room left : ℕ) → left + 1 ≡ room → BuiltSoFar u u scope [] [] room left
 built_start u scope room left e = record {
@@ -91,15 +91,15 @@ built_start u scope room left e = record {
 
 pub built_more : (old now new : Unfolding) (scope : Scope) (es : List Expr) (i : ℕ) (e : Expr) (done : List Stored) (s : Stored) (room left : ℕ) →
     BuiltSoFar old now scope (take i es) done room left → slice_get es i ≡ Some e → IsLater now new →
-    ((env : Env) → Fits now scope env → Holds new s (value_of (shape e) env)) → s.weight ≤ left →
+    ((env : Env) → Fits exact now scope env → Holds new s (value_of (shape e) env)) → s.weight ≤ left →
     BuiltSoFar old new scope (take (i + 1) es) (done ++ s ∷ []) room (left - s.weight)
 built_more old now new scope es i e done s room left b at next holds light =
     subst (λ xs. BuiltSoFar old new scope xs (done ++ s ∷ []) room (left - s.weight)) (sym (take_next es i e at)) (record {
       later = later_then old now new b.later next;
       inside = omega (arith, b.inside);
-      holds = λ env h. hold_push (take i es) new done s e env (hold_all_later _ now new done next (b.holds env h)) (holds env (fits_later scope old now env b.later h));
+      holds = λ env h. hold_push (take i es) new done s e env (hold_all_later _ now new done next (b.holds env h)) (holds env (fits_later exact scope old now env b.later h));
       weight = λ env h.
-          omega (arith, b.weight env h, weight_push (take i es) e env, holds_weight _ new s (holds env (fits_later scope old now env b.later h)));
+          omega (arith, b.weight env h, weight_push (take i es) e env, holds_weight _ new s (holds env (fits_later exact scope old now env b.later h)));
     })
 
 -- bodies in order, their formulas and their weights
@@ -144,31 +144,31 @@ values_over body name env s = map (λ v. value_of (shape body) (bind name v env)
 -- the weight of the first expressions
 pub record WeighedSoFar (u : Unfolding) (scope : Scope) (es : List Expr) (room left : ℕ) : Type 0 where
   pub inside : left < room
-  pub weight : (env : Env) → Fits u scope env → room ≡ left + (1 + parts_weight (values_of (shapes es) env))
+  pub weight : (m : Mode) (env : Env) → Fits m u scope env → room ≡ left + (1 + parts_weight (values_of (shapes es) env))
 
 pub weighed_more : (u : Unfolding) (scope : Scope) (es : List Expr) (i : ℕ) (e : Expr) (s : Summary) (room left : ℕ) →
     WeighedSoFar u scope (take i es) room left → slice_get es i ≡ Some e →
-    ((env : Env) → Fits u scope env → IsSummary s (value_of (shape e) env)) → s.weight ≤ left →
+    ((m : Mode) (env : Env) → Fits m u scope env → IsSummary m s (value_of (shape e) env)) → s.weight ≤ left →
     WeighedSoFar u scope (take (i + 1) es) room (left - s.weight)
 weighed_more u scope es i e s room left b at holds light =
     subst (λ xs. WeighedSoFar u scope xs room (left - s.weight)) (sym (take_next es i e at)) (record {
       inside = omega (arith, b.inside);
-      weight = λ env h. omega (arith, b.weight env h, weight_push (take i es) e env, (holds env h).weight);
+      weight = λ m env h. omega (arith, b.weight m env h, weight_push (take i es) e env, (holds m env h).weight);
     })
 
 -- the bodies of a quantifier that are joined so far
 pub record JoinedSoFar (u : Unfolding) (scope : Scope) (set : Head) (q : Bodies) (op : LogicOp) (room i : ℕ) (all : Summary) (last : BodyFact) : Type 0 where
   pub light : all.weight ≤ room
   pub known : IsOfBody u scope q last
-  pub holds : (env : Env) (s : Value) → Fits u scope env → Heads u set s → IsSummary all (connected_all op (take i (bodies_over q env s)))
+  pub holds : (m : Mode) (env : Env) (s : Value) → Fits m u scope env → Heads m u set s → IsSummary m all (connected_all op (take i (bodies_over q env s)))
 
 -- what is known of the bodies of a quantifier so far, together
 pub record GatheredSoFar (u : Unfolding) (scope : Scope) (set : Head) (q : Bodies) (room i : ℕ) (fact : Fact) (left : ℕ) (last : BodyFact) : Type 0 where
   pub inside : left ≤ room
   pub known : IsOfBody u scope q last
-  pub tells : (env : Env) (s : Value) → Fits u scope env → Heads u set s →
-      Tells fact (Some (formula (gathered (map formula_of (take i (bodies_over q env s))))))
-  pub weight : (env : Env) (s : Value) → Fits u scope env → Heads u set s →
+  pub tells : (m : Mode) (env : Env) (s : Value) → Fits m u scope env → Heads m u set s →
+      Says m fact (Some (formula (gathered (map formula_of (take i (bodies_over q env s))))))
+  pub weight : (m : Mode) (env : Env) (s : Value) → Fits m u scope env → Heads m u set s →
       room ≡ left + sum_by weight (take i (bodies_over q env s))
 
 -- a member of a set, and the body with it
@@ -200,9 +200,9 @@ joined_next op vs i v h some =
     ∙ joined_push op (map formula_of (take i vs)) (formula_of v) (omega (arith, length-map (take i vs) formula_of)))))
 
 -- what is known of joined bodies and of one more under the operator is known of them all
-pub joined_known : (s : Summary) (op : LogicOp) (vs : List Value) (i : ℕ) (v : Value) → slice_get vs i ≡ Some v → 0 < i →
-    IsSummary s (binary_value (binary.Logic op) (connected_all op (take i vs)) v) → IsSummary s (connected_all op (take (i + 1) vs))
-joined_known s op vs i v h some known =
+pub joined_known : (m : Mode) (s : Summary) (op : LogicOp) (vs : List Value) (i : ℕ) (v : Value) → slice_get vs i ≡ Some v → 0 < i →
+    IsSummary m s (binary_value (binary.Logic op) (connected_all op (take i vs)) v) → IsSummary m s (connected_all op (take (i + 1) vs))
+joined_known m s op vs i v h some known =
     let inside : i < length vs = slice_get_within vs i v h in
     record {
       weight = omega (
@@ -214,7 +214,7 @@ joined_known s op vs i v h some known =
         length-take-le i vs (omega arith),
         length-take-le (i + 1) vs (omega arith),
       );
-      fact = subst (λ p. Tells s.fact (Some (formula p))) (joined_next op vs i v h some) known.fact;
+      fact = subst (λ p. Says m s.fact (Some (formula p))) (joined_next op vs i v h some) known.fact;
     }
 
 pub bodies_count : (q : Bodies) (env : Env) (s : Value) → length (bodies_over q env s) ≡ length (members s)
@@ -232,29 +232,29 @@ gathered_next vs i v h =
 
 -- one more body, before the others
 pub gathered_more : (u : Unfolding) (scope : Scope) (set : Head) (q : Bodies) (room i : ℕ) (fact new : Fact) (left : ℕ) (last next : BodyFact) →
-    GatheredSoFar u scope set q room i fact left last → next.summary.weight ≤ left → ((s : Value) → Heads u set s → i < length (members s)) →
-    ((env : Env) (s v : Value) → Fits u scope env → Heads u set s → slice_get (members s) i ≡ Some v →
-    IsSummary next.summary (value_of (shape q.body.now) (bind q.name.now v env))) →
+    GatheredSoFar u scope set q room i fact left last → next.summary.weight ≤ left → ((m : Mode) (s : Value) → Heads m u set s → i < length (members s)) →
+    ((m : Mode) (env : Env) (s v : Value) → Fits m u scope env → Heads m u set s → slice_get (members s) i ≡ Some v →
+    IsSummary m next.summary (value_of (shape q.body.now) (bind q.name.now v env))) →
     IsOfBody u scope q next →
-    ((o p : Option Tree) → Tells next.summary.fact o → Tells fact p → Tells new (Some (formula (disjunction (formula_in o) (formula_in p))))) →
+    ((m : Mode) (o p : Option Tree) → Says m next.summary.fact o → Says m fact p → Says m new (Some (formula (disjunction (formula_in o) (formula_in p))))) →
     GatheredSoFar u scope set q room (i + 1) new (left - next.summary.weight) next
 gathered_more u scope set q room i fact new left last next g light inside holds known joins = record {
   inside = omega (arith, g.inside);
   known = known;
-  tells = λ env s h heads.
+  tells = λ m env s h heads.
       let v = get_or (members s) i (truth_value false) in
-      let at : slice_get (members s) i ≡ Some v = member_at (members s) i (length (members s)) refl (inside s heads) in
+      let at : slice_get (members s) i ≡ Some v = member_at (members s) i (length (members s)) refl (inside m s heads) in
       let w = value_of (shape q.body.now) (bind q.name.now v env) in
-      subst (λ p. Tells new (Some (formula p))) (sym (gathered_next (bodies_over q env s) i w (body_at q env s v i at)))
-      (joins (tree_in w) (Some (formula (gathered (map formula_of (take i (bodies_over q env s)))))) (holds env s v h heads at).fact (g.tells env s h heads));
-  weight = λ env s h heads.
+      subst (λ p. Says m new (Some (formula p))) (sym (gathered_next (bodies_over q env s) i w (body_at q env s v i at)))
+      (joins m (tree_in w) (Some (formula (gathered (map formula_of (take i (bodies_over q env s)))))) (holds m env s v h heads at).fact (g.tells m env s h heads));
+  weight = λ m env s h heads.
       let v = get_or (members s) i (truth_value false) in
-      let at : slice_get (members s) i ≡ Some v = member_at (members s) i (length (members s)) refl (inside s heads) in
+      let at : slice_get (members s) i ≡ Some v = member_at (members s) i (length (members s)) refl (inside m s heads) in
       omega (
         arith,
-        g.weight env s h heads,
+        g.weight m env s h heads,
         sum_next (bodies_over q env s) i (value_of (shape q.body.now) (bind q.name.now v env)) (body_at q env s v i at),
-        (holds env s v h heads at).weight,
+        (holds m env s v h heads at).weight,
       );
 }
 
@@ -272,11 +272,11 @@ counted_weight op m (v ∷ vs) h =
     ap (λ n. n + counting_weight (length (list_of (values_from (v ∷ vs)))) m) (weights_back (v ∷ vs))
     ∙ ap (λ xs. sum_by weight (v ∷ vs) + counting_weight (length xs) m) (bodies_back (v ∷ vs))
 
-pub counted_tells : (op : CountOp) (n m : ℕ) (vs : List Value) (f : Fact) → 0 < length vs → n ≡ length vs →
-    Tells f (Some (formula (counted_formula (map formula_of vs) (counting op n m)))) → Tells f (tree_in (counted op m vs))
-counted_tells op n m vs f some count h =
-    subst (λ p. Tells f (Some (formula p))) (ap (λ k. counted_formula (map formula_of vs) (counting op k m)) count ∙ sym (counted_means op m vs some)) h
+pub counted_tells : (g : Mode) (op : CountOp) (n m : ℕ) (vs : List Value) (f : Fact) → 0 < length vs → n ≡ length vs →
+    Says g f (Some (formula (counted_formula (map formula_of vs) (counting op n m)))) → Says g f (tree_in (counted op m vs))
+counted_tells g op n m vs f some count h =
+    subst (λ p. Says g f (Some (formula p))) (ap (λ k. counted_formula (map formula_of vs) (counting op k m)) count ∙ sym (counted_means op m vs some)) h
 
 -- nothing is known of a body where its variable is no stored value
-pub not_known : (u : Unfolding) (scope : Scope) (q : Bodies) (known : BodyFact) → known.member ≡ None → IsOfBody u scope q known
-not_known u scope q known nothing = record { holds = λ env s v some. cc }
+pub not_known : (u : Unfolding) (scope : Scope) (q : Bodies) (known : BodyFact) → known.member ≡ None → known.cover ≡ None → IsOfBody u scope q known
+not_known u scope q known nothing bare = record { holds = λ m env s v some. cc; covers = λ m env s v some. cc }

@@ -18,6 +18,8 @@ use Rattle.c2po_unfold.specs.declared.scope.Head.TheVariants as head
 use Rattle.c2po_unfold.specs.declared.unfolding.Unfolding.{Unfolding}
 use Rattle.c2po_unfold.specs.Values.{Value, leaf, structure, set, list_of, members, picked, part_or, built, grouped}
 use Rattle.c2po_unfold.specs.Environment.{Env, value_of, values_of}
+use Rattle.c2po_unfold.specs.Covering.{Mode}
+use Rattle.c2po_unfold.specs.declared.summary.Summary.{Summary}
 use Rattle.c2po_unfold.specs.Holding.{Holds, Keeps}
 use Rattle.c2po_unfold.specs.Heads.{Heads, HoldMembers, is_operator}
 use Rattle.c2po_unfold.proofs.Members.{values_count, value_at, hold_count, hold_at, operator_is_leaf}
@@ -70,10 +72,10 @@ held_part_past (structure y vs) u s i p x k fields f h e a n q b =
     (subst (λ r. Holds u s r) (sym (get_or_past (list_of vs) k (structure y vs) past)) h)
 
 -- the members of heads
-pub set_count : (u : Unfolding) (h : Head) (scope : Bor Scope) (d : Bor Expr) (es : Bor (List Expr)) (v : Value) → h ≡ head.Set scope d es → Heads u h v →
+pub set_count : (m : Mode) (u : Unfolding) (h : Head) (scope : Bor Scope) (d : Bor Expr) (es : Bor (List Expr)) (v : Value) → h ≡ head.Set scope d es → Heads m u h v →
     length es.now ≡ length (members v)
-set_count u h scope d es v e k =
-    let g : Heads u (head.Set scope d es) v = subst (λ x. Heads u x v) e k in
+set_count m u h scope d es v e k =
+    let g : Heads m u (head.Set scope d es) v = subst (λ x. Heads m u x v) e k in
     sym (ap (λ w. length (members w)) g.2 ∙ values_count es.now g.0)
 
 pub members_count : (v : Value) (u : Unfolding) (ss : List Stored) → HoldMembers u ss v → length ss ≡ length (members v)
@@ -161,36 +163,44 @@ facts_push u facts f same = record {
 }
 
 -- other heads than sets have no members, and other heads than structs have no parts
-pub other_members : (u : Unfolding) (h : Head) (v : Value) →
+pub other_members : (m : Mode) (u : Unfolding) (h : Head) (v : Value) →
     ((x : Bor Scope) × (y : Bor Expr) × (h ≡ head.Nothing x y)) ⊎ (((x : Bor Scope) × (d : Bor Expr) × (y : Bor (List ℕ)) × (z : Bor (List Expr)) × (h ≡ head.Struct x d y z))
-    ⊎ ((x : Bor Scope) × (y : Bor Expr) × (h ≡ head.Leaf x y))) →
-    Heads u h v → members v ≡ []
-other_members u h v e k = elim e [
+    ⊎ (((x : Bor Scope) × (y : Bor Expr) × (h ≡ head.Leaf x y)) ⊎ ((x : Bor Summary) × (h ≡ head.Covered x)))) →
+    Heads m u h v → members v ≡ []
+other_members m u h v e k = elim e [
   | inl n ↦
-      let g : Heads u (head.Nothing n.0 n.1) v = subst (λ x. Heads u x v) n.2 k in
+      let g : Heads m u (head.Nothing n.0 n.1) v = subst (λ x. Heads m u x v) n.2 k in
       ap members g.2
-  | inr m ↦ elim m [
-    | inl s ↦ let g : Heads u (head.Struct s.0 s.1 s.2 s.3) v = subst (λ x. Heads u x v) s.4 k in ap members g.2
-    | inr l ↦
-        let g : Heads u (head.Leaf l.0 l.1) v = subst (λ x. Heads u x v) l.2 k in
-        leaf_members (shape l.1.now) g.0 v g.2 g.3
+  | inr o ↦ elim o [
+    | inl s ↦ let g : Heads m u (head.Struct s.0 s.1 s.2 s.3) v = subst (λ x. Heads m u x v) s.4 k in ap members g.2
+    | inr q ↦ elim q [
+      | inl l ↦
+          let g : Heads m u (head.Leaf l.0 l.1) v = subst (λ x. Heads m u x v) l.2 k in
+          leaf_members (shape l.1.now) g.0 v g.2 g.3
+      | inr c ↦ let g : Heads m u (head.Covered c.0) v = subst (λ x. Heads m u x v) c.1 k in ap members g.1
+    ]
   ]
 ]
 
-pub other_picked : (u : Unfolding) (h : Head) (v : Value) (fields : List ℕ → List (List ℕ)) (f : List ℕ) →
+pub other_picked : (m : Mode) (u : Unfolding) (h : Head) (v : Value) (fields : List ℕ → List (List ℕ)) (f : List ℕ) →
     ((x : Bor Scope) × (y : Bor Expr) × (h ≡ head.Nothing x y)) ⊎ (((x : Bor Scope) × (d : Bor Expr) × (z : Bor (List Expr)) × (h ≡ head.Set x d z))
-    ⊎ ((x : Bor Scope) × (y : Bor Expr) × (h ≡ head.Leaf x y))) →
-    Heads u h v → picked fields f v ≡ v
-other_picked u h v fields f e k = elim e [
+    ⊎ (((x : Bor Scope) × (y : Bor Expr) × (h ≡ head.Leaf x y)) ⊎ ((x : Bor Summary) × (h ≡ head.Covered x)))) →
+    Heads m u h v → picked fields f v ≡ v
+other_picked m u h v fields f e k = elim e [
   | inl n ↦
-      let g : Heads u (head.Nothing n.0 n.1) v = subst (λ x. Heads u x v) n.2 k in
+      let g : Heads m u (head.Nothing n.0 n.1) v = subst (λ x. Heads m u x v) n.2 k in
       subst (λ w. picked fields f w ≡ w) (sym g.2) refl
-  | inr m ↦ elim m [
+  | inr o ↦ elim o [
     | inl s ↦
-        let g : Heads u (head.Set s.0 s.1 s.2) v = subst (λ x. Heads u x v) s.3 k in
+        let g : Heads m u (head.Set s.0 s.1 s.2) v = subst (λ x. Heads m u x v) s.3 k in
         subst (λ w. picked fields f w ≡ w) (sym g.2) refl
-    | inr l ↦
-        let g : Heads u (head.Leaf l.0 l.1) v = subst (λ x. Heads u x v) l.2 k in
-        leaf_picked (shape l.1.now) g.0 v fields f g.2 g.3
+    | inr q ↦ elim q [
+      | inl l ↦
+          let g : Heads m u (head.Leaf l.0 l.1) v = subst (λ x. Heads m u x v) l.2 k in
+          leaf_picked (shape l.1.now) g.0 v fields f g.2 g.3
+      | inr c ↦
+          let g : Heads m u (head.Covered c.0) v = subst (λ x. Heads m u x v) c.1 k in
+          subst (λ w. picked fields f w ≡ w) (sym g.1) refl
+    ]
   ]
 ]

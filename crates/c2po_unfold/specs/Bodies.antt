@@ -10,9 +10,14 @@ use Rattle.c2po_unfold.specs.Values.{Value}
 use Rattle.c2po_unfold.specs.Environment.{Env}
 use Rattle.c2po_unfold.specs.Holding.{Holds, Fits}
 use Rattle.c2po_unfold.specs.Operators.{body_value}
-use Rattle.c2po_unfold.specs.Summaries.{IsSummary}
+use Rattle.c2po_unfold.specs.Summaries.{IsSummary, IsOfLeaf}
+use Rattle.c2po_unfold.specs.Covering.{Mode, covering}
+use Rattle.c2po_unfold.specs.declared.summary.Summary.{Summary}
 
--- what is known of a quantifier's body is so for each value of its variable that the stored value represents
+-- what is known of a quantifier's body is so for each value of its variable that the stored value represents, or that
+-- the summary covers
 pub record IsOfBody (u : Unfolding) (scope : Scope) (q : Bodies) (known : BodyFact) : Type 0 where
-  pub holds : (env : Env) (s : Stored) (v : Value) → known.member ≡ Some s → Fits u scope env → Holds u s v
-      → IsSummary known.summary (body_value q env v)
+  pub holds : (m : Mode) (env : Env) (s : Stored) (v : Value) → known.member ≡ Some s → Fits m u scope env
+      → Holds u s v → IsSummary m known.summary (body_value q env v)
+  pub covers : (m : Mode) (env : Env) (s : Summary) (v : Value) → known.cover ≡ Some s → Fits m u scope env
+      → IsOfLeaf covering s v → IsSummary m known.summary (body_value q env v)

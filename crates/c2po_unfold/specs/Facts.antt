@@ -1,7 +1,7 @@
 -- What is known of values: ranges of integers, faults and tenses of formulas. `src/fact.rt` computes these facts;
 -- contracts of other crates cite those of formulas.
 
-use Rattle.std.specs.Prelude.{◌≡◌, pos, Bool, false, Option, Some, None, Result, Ok, Err}
+use Rattle.std.specs.Prelude.{◌≡◌, pos, Bool, true, false, Option, Some, None, Result, Ok, Err}
 use Rattle.std.specs.Option.{option_map}
 use Rattle.mltl_base.specs.declared.operators.ArithOp as arith
 use Rattle.mltl_base.specs.Ranges.{Range, NoRange, Ranged, range, range_from, summed}
@@ -10,13 +10,14 @@ use Rattle.mltl_base.specs.declared.range.NoRange as answer
 use Rattle.mltl_base.specs.Answers.{reason}
 use Rattle.c2po_nodes.specs.Nodes.{Tree, number, formula}
 use Rattle.c2po_unfold.specs.declared.fact.Fact.{Fact}
-use Rattle.c2po_unfold.specs.declared.fact.Fact.TheVariants.{Number, NoNumber, Formula, Parts}
+use Rattle.c2po_unfold.specs.declared.fact.Fact.TheVariants.{Number, Within, NoNumber, Formula, Parts}
 use Rattle.c2po_nodes.specs.Faults.{formula_fault}
 use Rattle.c2po_nodes.specs.Tenses.{has_past, has_future}
 
--- what is known of a tree
+-- what is known of a tree: an integer's range, or a range that it is within, or a formula's fault and tenses
 pub data TreeFact : Type 0 where
   whole : Ranged → TreeFact
+  within : Range → TreeFact
   truth : (fault : Option NoRange) (past future : Bool) → TreeFact
 
 -- what is known of an integer, or of a formula
@@ -36,6 +37,7 @@ told_fault fault = option_map reason fault
 -- what a fact says of a value, if it is an integer or a formula
 abbrev pub fact_view : Fact → Option TreeFact
 fact_view (Number r) = Some (whole (Ok r))
+fact_view (Within r) = Some (within r)
 fact_view (NoNumber why) = Some (whole (Err (reason why)))
 fact_view (Formula fault tenses) = Some (truth (told_fault fault) tenses.past tenses.future)
 fact_view Parts = None
@@ -47,25 +49,36 @@ Tells fact o = fact_view fact ≡ option_map tree_fact o
 -- the range of an operand; a formula, of which nothing is asked, has that of 0
 abbrev pub range_in : Option TreeFact → Ranged
 range_in (Some (whole r)) = r
+range_in (Some (within r)) = Ok r
 range_in (Some (truth fault past future)) = Ok (range_from (pos 0) (pos 0))
 range_in None = Ok (range_from (pos 0) (pos 0))
+
+-- the range of an operand is its own
+abbrev pub exact_in : Option TreeFact → Bool
+exact_in (Some (within r)) = false
+exact_in (Some (whole r)) = true
+exact_in (Some (truth fault past future)) = true
+exact_in None = true
 
 -- the fault of an operand; an integer, which isn't expected here, has none
 abbrev pub fault_in : Option TreeFact → Option NoRange
 fault_in (Some (truth fault past future)) = fault
 fault_in (Some (whole r)) = None
+fault_in (Some (within r)) = None
 fault_in None = None
 
 -- an operator of the past is in the operand
 abbrev pub past_in : Option TreeFact → Bool
 past_in (Some (truth fault past future)) = past
 past_in (Some (whole r)) = false
+past_in (Some (within r)) = false
 past_in None = false
 
 -- an operator of the future is in the operand
 abbrev pub future_in : Option TreeFact → Bool
 future_in (Some (truth fault past future)) = future
 future_in (Some (whole r)) = false
+future_in (Some (within r)) = false
 future_in None = false
 
 -- the range of an operation, by those of its operands

@@ -12,13 +12,16 @@ use Rattle.c2po_unfold.specs.declared.unfolding.Unfolding.{Unfolding}
 use Rattle.c2po_unfold.specs.Values.{Value, leaf, structure, set, truth_value, built, grouped}
 use Rattle.c2po_unfold.specs.Environment.{Env, Known, nothing, fields, value, value_of, values_of}
 use Rattle.c2po_unfold.specs.Holding.{Holds, HoldAll, Fits}
+use Rattle.c2po_unfold.specs.Covering.{Mode}
+use Rattle.c2po_unfold.specs.Summaries.{IsOfLeaf}
 
 -- what was found for a name is what it means
-abbrev pub Names : Unfolding → Named → Known → Type 0
-Names u named.Nothing k = k ≡ nothing
-Names u (named.Struct i) k = (xs : List (List ℕ)) × (slice_get u.structs i ≡ Some xs) × (k ≡ fields xs)
-Names u (named.Open scope e) k = (env : Env) × Fits u scope.now env × (k ≡ value (value_of (shape e.now) env))
-Names u (named.Held s) k = (v : Value) × Holds u s v × (k ≡ value v)
+abbrev pub Names : Mode → Unfolding → Named → Known → Type 0
+Names m u named.Nothing k = k ≡ nothing
+Names m u (named.Struct i) k = (xs : List (List ℕ)) × (slice_get u.structs i ≡ Some xs) × (k ≡ fields xs)
+Names m u (named.Open scope e) k = (env : Env) × Fits m u scope.now env × (k ≡ value (value_of (shape e.now) env))
+Names m u (named.Held s) k = (v : Value) × Holds u s v × (k ≡ value v)
+Names m u (named.Covered s) k = (v : Value) × IsOfLeaf m s.now v × (k ≡ value v)
 
 -- a number, a Boolean, an operator or a quantifier
 abbrev pub is_operator : Shape → Bool
@@ -35,15 +38,16 @@ HoldMembers u ss (structure x vs) = ss ≡ []
 HoldMembers u ss (leaf l) = ss ≡ []
 
 -- a head has a value
-abbrev pub Heads : Unfolding → Head → Value → Type 0
-Heads u (head.Nothing scope e) v =
-    (env : Env) × Fits u scope.now env × (v ≡ truth_value false) × (v ≡ value_of (shape e.now) env)
-Heads u (head.Struct scope e x es) v =
-    (env : Env) × Fits u scope.now env × (v ≡ built x.now (values_of (shapes es.now) env))
+abbrev pub Heads : Mode → Unfolding → Head → Value → Type 0
+Heads m u (head.Nothing scope e) v =
+    (env : Env) × Fits m u scope.now env × (v ≡ truth_value false) × (v ≡ value_of (shape e.now) env)
+Heads m u (head.Struct scope e x es) v =
+    (env : Env) × Fits m u scope.now env × (v ≡ built x.now (values_of (shapes es.now) env))
     × (v ≡ value_of (shape e.now) env)
-Heads u (head.Set scope e es) v =
-    (env : Env) × Fits u scope.now env × (v ≡ grouped (values_of (shapes es.now) env))
+Heads m u (head.Set scope e es) v =
+    (env : Env) × Fits m u scope.now env × (v ≡ grouped (values_of (shapes es.now) env))
     × (v ≡ value_of (shape e.now) env)
-Heads u (head.Leaf scope e) v =
-    (env : Env) × Fits u scope.now env × (v ≡ value_of (shape e.now) env) × (is_operator (shape e.now) ≡ true)
-Heads u (head.Held s) v = Holds u s v
+Heads m u (head.Leaf scope e) v =
+    (env : Env) × Fits m u scope.now env × (v ≡ value_of (shape e.now) env) × (is_operator (shape e.now) ≡ true)
+Heads m u (head.Held s) v = Holds u s v
+Heads m u (head.Covered s) v = IsOfLeaf m s.now v

@@ -12,12 +12,14 @@ use Rattle.c2po_unfold.specs.declared.values.Entry.{Entry}
 use Rattle.c2po_unfold.specs.declared.values.Entry.TheVariants as entry
 use Rattle.c2po_unfold.specs.declared.unfolding.Weighed.{Weighed}
 use Rattle.c2po_unfold.specs.declared.unfolding.Unfolding.{Unfolding}
-use Rattle.c2po_unfold.specs.declared.scope.Scope.{Scope, Top, Open', Held'}
+use Rattle.c2po_unfold.specs.declared.scope.Scope.{Scope, Top, Open', Held', Covered'}
 use Rattle.c2po_unfold.specs.Values.{Value, Values, leaf, structure, set, none, more, formula_of, leaf_tree}
 use Rattle.c2po_unfold.specs.Weights.{leaf_weight, parts_weight, weight as weight_of}
 use Rattle.c2po_nodes.specs.Faults.{tree_fault, formula_fault}
 use Rattle.c2po_nodes.specs.Tenses.{has_past, has_future}
 use Rattle.c2po_unfold.specs.Facts.{Tells, told_fault}
+use Rattle.c2po_unfold.specs.Covering.{Mode}
+use Rattle.c2po_unfold.specs.Summaries.{IsOfLeaf}
 use Rattle.c2po_unfold.specs.Faults.{values_fault}
 use Rattle.c2po_unfold.specs.Environment.{Env, Known, nothing, fields, value, value_of, bind}
 
@@ -67,13 +69,15 @@ pub record Weighs (found : Weighed) (v : Value) : Type 0 where
   pub future : found.tenses.future ≡ has_future (formula_of v)
 
 -- variables within an unfolding represent an environment
-abbrev pub Fits : Unfolding → Scope → Env → Type 0
-Fits u Top env = StandsFor u env
-Fits u (Open' x e _ within _ outer) env =
-    (inner : Env) × (around : Env) × Fits u within inner × Fits u outer around
+abbrev pub Fits : Mode → Unfolding → Scope → Env → Type 0
+Fits m u Top env = StandsFor u env
+Fits m u (Open' x e _ within _ outer) env =
+    (inner : Env) × (around : Env) × Fits m u within inner × Fits m u outer around
     × (env ≡ bind x.now (value_of (shape e.now) inner) around)
-Fits u (Held' x s _ outer) env =
-    (v : Value) × (around : Env) × Holds u s v × Fits u outer around × (env ≡ bind x.now v around)
+Fits m u (Held' x s _ outer) env =
+    (v : Value) × (around : Env) × Holds u s v × Fits m u outer around × (env ≡ bind x.now v around)
+Fits m u (Covered' x s _ outer) env =
+    (v : Value) × (around : Env) × IsOfLeaf m s.now v × Fits m u outer around × (env ≡ bind x.now v around)
 
 -- what an unfolding has stays at its place
 pub record Keeps (old new : Unfolding) : Type 0 where

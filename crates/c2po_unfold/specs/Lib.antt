@@ -6,6 +6,7 @@ pub mod Heads
 pub mod Operators
 pub mod Summaries
 pub mod Facts
+pub mod Covering
 pub mod Faults
 pub mod Parts
 pub mod Bodies

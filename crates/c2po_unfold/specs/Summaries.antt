@@ -4,15 +4,19 @@ use Rattle.std.specs.Prelude.{ℕ, ◌≡◌, ◌+◌, nat_le, Bool, ◌&&◌, L
 use Rattle.mltl_base.specs.declared.operators.CountOp.{CountOp}
 use Rattle.mltl_base.specs.declared.operators.CountOp.TheVariants.{Exactly, AtLeast, AtMost}
 use Rattle.mltl_base.specs.Formula.{Formula, falsity, disjunction}
-use Rattle.c2po_unfold.specs.Facts.{Tells}
+use Rattle.c2po_unfold.specs.Covering.{Mode, Says}
 use Rattle.c2po_unfold.specs.declared.summary.Summary.{Summary}
-use Rattle.c2po_unfold.specs.Values.{Value, tree_in}
+use Rattle.c2po_unfold.specs.Values.{Value, Leaf, leaf, tree_in}
 use Rattle.c2po_unfold.specs.Weights.{weight as weight_of}
 
 -- what is known is the value's weight, and the range of its integer, or the fault and the tenses of its formula
-pub record IsSummary (s : Summary) (v : Value) : Type 0 where
+pub record IsSummary (m : Mode) (s : Summary) (v : Value) : Type 0 where
   pub weight : s.weight ≡ weight_of v
-  pub fact : Tells s.fact (tree_in v)
+  pub fact : Says m s.fact (tree_in v)
+
+-- the same of an integer or a formula
+abbrev pub IsOfLeaf : Mode → Summary → Value → Type 0
+IsOfLeaf m s v = (l : Leaf) × (v ≡ leaf l) × IsSummary m s (leaf l)
 
 -- one of the formulas, from the last to the first
 abbrev pub gathered : List Formula → Formula

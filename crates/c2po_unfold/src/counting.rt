@@ -3,7 +3,7 @@
 ghost use Rattle.std.specs.Prelude.{◌≡◌, ◌≤◌, ◌<◌, List as Seq, Some, length, IfOk, IfErr};
 ghost use Rattle.mltl_base.specs.Formula.{Formula};
 ghost use Rattle.count_sets.specs.Counting.{counting};
-ghost use Rattle.c2po_unfold.specs.Facts.{Tells};
+ghost use Rattle.c2po_unfold.specs.Covering.{Mode, Says};
 ghost use Rattle.c2po_nodes.specs.Nodes.{formula};
 ghost use Rattle.c2po_unfold.specs.Summaries.{asks_bodies, gathered};
 ghost use Rattle.c2po_unfold.specs.Values.{counted_formula};
@@ -45,8 +45,9 @@ fn has_bodies(op: CountOp, n: usize, number: u64) -> bool
 
 /// What is known of a counting quantifier, by what is known of its `n` bodies together.
 pub(crate) fn counted_fact(op: CountOp, n: usize, number: u64, bodies: Fact) -> Fact
-    ensures { (ps : Seq Formula) → length ps ≡ n → Tells bodies (Some (formula (gathered ps)))
-        → Tells result (Some (formula (counted_formula ps (counting op n number)))) }
+    ensures { (m : Mode) (ps : Seq Formula) → length ps ≡ n
+        → Says m bodies (Some (formula (gathered ps)))
+        → Says m result (Some (formula (counted_formula ps (counting op n number)))) }
 {
     if has_bodies(op, n, number) {
         bodies

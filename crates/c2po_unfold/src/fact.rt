@@ -1,6 +1,6 @@
 //! What is known of an integer or a formula.
 
-ghost use Rattle.std.specs.Prelude.{◌≡◌, ◌||◌, ℕ, Bool, true, Some, Option as Maybe};
+ghost use Rattle.std.specs.Prelude.{◌≡◌, ◌≤ℤ◌, ◌&&◌, ◌||◌, ℕ, Bool, true, Some, Option as Maybe};
 ghost use Rattle.mltl_base.specs.declared.operators.CompareOp.{CompareOp as Comparison};
 ghost use Rattle.mltl_base.specs.declared.operators.LogicOp.{LogicOp as Connective};
 ghost use Rattle.mltl_base.specs.declared.interval.Interval.{Interval};
@@ -8,7 +8,8 @@ ghost use Rattle.mltl_base.specs.Atoms.{column, constant, is_true, negative};
 ghost use Rattle.mltl_base.specs.Formula.{atom, negation};
 ghost use Rattle.mltl_base.specs.Ranges.{negated, over};
 ghost use Rattle.c2po_nodes.specs.Faults.{or_later, tree_fault, why_none};
-ghost use Rattle.c2po_unfold.specs.Facts.{Tells, fact_view, fault_in, future_in, past_in, range_by, range_in, told_range, told_fault, whole};
+ghost use Rattle.c2po_unfold.specs.Covering.{Mode, Says, covering, integer_view, reached, widened};
+ghost use Rattle.c2po_unfold.specs.Facts.{Tells, exact_in, fact_view, fault_in, future_in, past_in, range_by, range_in, told_range, told_fault};
 ghost use Rattle.c2po_nodes.specs.Nodes.{Tree, arithmetic, comparison, connected, constant_formula, formula, formula_in, number, ranged, term_in, windowed};
 
 use mltl_base::range::{self, NoRange, Range};
@@ -67,6 +68,8 @@ impl Tenses {
 #[derive(Clone, Copy)]
 pub enum Fact {
     Number(Range),
+    /// An integer whose range is within this one.
+    Within(Range),
     NoNumber(NoRange),
     Formula(Option<NoRange>, Tenses),
     /// A struct's value or a set, of which nothing is kept here.
@@ -78,7 +81,7 @@ fn range_of(fact: &Fact) -> Result<Range, NoRange>
     ensures { told_range result ≡ range_in (fact_view fact.now) }
 {
     match fact {
-        Fact::Number(range) => Ok(*range),
+        Fact::Number(range) | Fact::Within(range) => Ok(*range),
         Fact::NoNumber(why) => Err(*why),
         Fact::Formula(..) | Fact::Parts => Ok(range::constant(0)),
     }
@@ -90,7 +93,7 @@ pub fn fault_of(fact: &Fact) -> Option<NoRange>
 {
     match fact {
         Fact::Formula(fault, _) => *fault,
-        Fact::Number(_) | Fact::NoNumber(_) | Fact::Parts => None,
+        Fact::Number(_) | Fact::Within(_) | Fact::NoNumber(_) | Fact::Parts => None,
     }
 }
 
@@ -101,16 +104,34 @@ pub fn tenses_of(fact: &Fact) -> Tenses
 {
     match fact {
         Fact::Formula(_, tenses) => *tenses,
-        Fact::Number(_) | Fact::NoNumber(_) | Fact::Parts => Tenses::NONE,
+        Fact::Number(_) | Fact::Within(_) | Fact::NoNumber(_) | Fact::Parts => Tenses::NONE,
     }
 }
 
-/// What is known of an integer with this range.
-fn number_fact(range: Result<Range, NoRange>) -> Fact
-    ensures { fact_view result ≡ Some (whole (told_range range)) }
+/// Whether the range of an operand is its own, and not one that it is within.
+fn is_exact(fact: &Fact) -> bool
+    ensures { result ≡ exact_in (fact_view fact.now) }
+{
+    match fact {
+        Fact::Within(_) => false,
+        _ => true,
+    }
+}
+
+/// Whether the ranges of both operands are their own.
+fn both_exact(a: &Fact, b: &Fact) -> bool
+    ensures { result ≡ (exact_in (fact_view a.now) && exact_in (fact_view b.now)) }
+{
+    is_exact(a) && is_exact(b)
+}
+
+/// What is known of an integer with this range, or with one within it.
+fn integer_fact(exact: bool, range: Result<Range, NoRange>) -> Fact
+    ensures { fact_view result ≡ Some (integer_view exact (told_range range)) }
 {
     match range {
-        Ok(range) => Fact::Number(range),
+        Ok(range) if exact => Fact::Number(range),
+        Ok(range) => Fact::Within(range),
         Err(why) => Fact::NoNumber(why),
     }
 }
@@ -141,6 +162,37 @@ fn computed_range(
     }
 }
 
+/// The range to take for the left operand of an operation where its own is only known to be within it: that of a
+/// remainder isn't always within the one that a greater range gives, so that of any sign is taken.
+fn widened_range(op: ArithOp, a: Result<Range, NoRange>) -> Result<Range, NoRange>
+    ensures { told_range result ≡ widened op (told_range a) }
+{
+    match op {
+        ArithOp::Rem => {
+            a?;
+            Ok(range::signal())
+        }
+        ArithOp::Add | ArithOp::Sub | ArithOp::Mul | ArithOp::Div => a,
+    }
+}
+
+/// The range of two integers under an operator, by theirs or by those that they are within.
+fn reached_range(
+    exact: bool,
+    op: ArithOp,
+    a: Result<Range, NoRange>,
+    b: Result<Range, NoRange>,
+) -> Result<Range, NoRange>
+    ensures { told_range result ≡ reached exact op (told_range a) (told_range b) }
+{
+    if exact {
+        computed_range(op, a, b)
+    } else {
+        let a = widened_range(op, a);
+        computed_range(op, a, b)
+    }
+}
+
 /// Why there is no range.
 fn why_none_of(range: Result<Range, NoRange>) -> Option<NoRange>
     ensures { told_fault result ≡ why_none (told_range range) }
@@ -153,6 +205,24 @@ pub fn first_fault(left: Option<NoRange>, right: Option<NoRange>) -> Option<NoRa
     ensures { told_fault result ≡ or_later (told_fault left) (told_fault right) }
 {
     left.or(right)
+}
+
+/// Whether a range is within another one.
+fn is_within(inner: Range, outer: Range) -> bool
+    ensures least { result ≡ true → outer.least ≤ℤ inner.least }
+    ensures greatest { result ≡ true → inner.greatest ≤ℤ outer.greatest }
+{
+    outer.least() <= inner.least() && inner.greatest() <= outer.greatest()
+}
+
+/// Returns the least range that both are within, where that has less than 2^63 numbers: a sum whose right operand is
+/// from 0, as a remainder is.
+fn spanning(a: Range, b: Range) -> Option<Range> {
+    let least = a.least().min(b.least());
+    let greatest = a.greatest().max(b.greatest());
+    let count = greatest.checked_sub(least)?.checked_add(1)?;
+    let above = range::remainder(range::constant(0), range::constant(count)).ok()?;
+    range::sum(range::constant(least), above).ok()
 }
 
 impl Fact {
@@ -175,7 +245,7 @@ impl Fact {
         match self {
             Fact::NoNumber(why) => Some(*why),
             Fact::Formula(fault, _) => *fault,
-            Fact::Number(_) | Fact::Parts => None,
+            Fact::Number(_) | Fact::Within(_) | Fact::Parts => None,
         }
     }
 
@@ -204,10 +274,40 @@ impl Fact {
         Fact::Number(range::signal())
     }
 
+    /// Whether this covers another fact. None with a fault does, and none of a struct's value or a set.
+    pub(crate) fn covers(&self, other: &Fact) -> bool
+        ensures { (m : Mode) (o : Maybe Tree) → result ≡ true → Says m other.now o
+            → Says covering self.now o }
+    {
+        match (self, other) {
+            (Fact::Within(outer), Fact::Number(inner)) => is_within(*inner, *outer),
+            (Fact::Within(outer), Fact::Within(inner)) => is_within(*inner, *outer),
+            _ => self.is(other),
+        }
+    }
+
+    /// Returns a fact that covers two, if there is one. Whether it does is for the caller to see.
+    pub(crate) fn widest(&self, other: &Fact) -> Option<Fact> {
+        match (self, other) {
+            (Fact::Number(a) | Fact::Within(a), Fact::Number(b) | Fact::Within(b)) => {
+                Some(Fact::Within(spanning(*a, *b)?))
+            }
+            _ => { if self.is(other) { Some(*self) } else { None } }
+        }
+    }
+
+    /// Whether this is of a formula without a fault, of which nothing else can be known.
+    pub(crate) fn is_certain(&self) -> bool
+        ensures { (m : Mode) (o : Maybe Tree) → result ≡ true → Says covering self.now o
+            → Says m self.now o }
+    {
+        matches!(self, Fact::Formula(None, _))
+    }
+
     /// Returns what is known of an operand as a formula.
     pub fn formula(a: &Fact) -> Fact
-        ensures { (o : Maybe Tree) → Tells a.now o
-            → Tells result (Some (formula (formula_in o))) }
+        ensures { (m : Mode) (o : Maybe Tree) → Says m a.now o
+            → Says m result (Some (formula (formula_in o))) }
     {
         let fault = fault_of(a);
         let tenses = tenses_of(a);
@@ -215,39 +315,40 @@ impl Fact {
     }
 
     /// Returns what is known of a negation.
-    #[tactic(auto, unfolding(c2po_nodes::specs::Faults::formula_fault, c2po_nodes::specs::Tenses::has_past, c2po_nodes::specs::Tenses::has_future))]
     pub fn negation(a: &Fact) -> Fact
-        ensures { (o : Maybe Tree) → Tells a.now o
-            → Tells result (Some (formula (negation (formula_in o)))) }
+        ensures { (m : Mode) (o : Maybe Tree) → Says m a.now o
+            → Says m result (Some (formula (negation (formula_in o)))) }
     {
         Fact::formula(a)
     }
 
     /// Returns what is known of the negative of an integer.
     pub fn negative(a: &Fact) -> Fact
-        ensures { (o : Maybe Tree) → Tells a.now o
-            → Tells result (Some (number (negative (term_in o)))) }
+        ensures { (m : Mode) (o : Maybe Tree) → Says m a.now o
+            → Says m result (Some (number (negative (term_in o)))) }
     {
+        let exact = is_exact(a);
         let operand = range_of(a);
         let range = negated_range(operand);
-        number_fact(range)
+        integer_fact(exact, range)
     }
 
     /// Returns what is known of an operation on two integers.
     pub fn computed(op: ArithOp, a: &Fact, b: &Fact) -> Fact
-        ensures { (o q : Maybe Tree) → Tells a.now o → Tells b.now q
-            → Tells result (Some (number (arithmetic op (term_in o) (term_in q)))) }
+        ensures { (m : Mode) (o q : Maybe Tree) → Says m a.now o → Says m b.now q
+            → Says m result (Some (number (arithmetic op (term_in o) (term_in q)))) }
     {
+        let exact = both_exact(a, b);
         let left = range_of(a);
         let right = range_of(b);
-        let range = computed_range(op, left, right);
-        number_fact(range)
+        let range = reached_range(exact, op, left, right);
+        integer_fact(exact, range)
     }
 
     /// Returns what is known of a comparison of two integers.
     pub fn compared(a: &Fact, b: &Fact) -> Fact
-        ensures { (op : Comparison) (o q : Maybe Tree) → Tells a.now o → Tells b.now q
-            → Tells result (Some (formula (atom (comparison op (term_in o) (term_in q))))) }
+        ensures { (m : Mode) (op : Comparison) (o q : Maybe Tree) → Says m a.now o → Says m b.now q
+            → Says m result (Some (formula (atom (comparison op (term_in o) (term_in q))))) }
     {
         let left = why_none_of(range_of(a));
         let right = why_none_of(range_of(b));
@@ -257,8 +358,8 @@ impl Fact {
 
     /// Returns what is known of two formulas under a connective.
     pub fn joined(a: &Fact, b: &Fact) -> Fact
-        ensures { (op : Connective) (o q : Maybe Tree) → Tells a.now o → Tells b.now q
-            → Tells result (Some (formula (connected op (formula_in o) (formula_in q)))) }
+        ensures { (m : Mode) (op : Connective) (o q : Maybe Tree) → Says m a.now o → Says m b.now q
+            → Says m result (Some (formula (connected op (formula_in o) (formula_in q)))) }
     {
         let fault = first_fault(fault_of(a), fault_of(b));
         let tenses = tenses_of(a).or(tenses_of(b));
@@ -267,8 +368,8 @@ impl Fact {
 
     /// Returns what is known of a formula under a temporal operator.
     pub fn windowed(op: WindowOp, a: &Fact) -> Fact
-        ensures { (i : Interval) (o : Maybe Tree) → Tells a.now o
-            → Tells result (Some (formula (windowed op i (formula_in o)))) }
+        ensures { (m : Mode) (i : Interval) (o : Maybe Tree) → Says m a.now o
+            → Says m result (Some (formula (windowed op i (formula_in o)))) }
     {
         let fault = fault_of(a);
         let tenses = tenses_of(a);
@@ -280,8 +381,8 @@ impl Fact {
 
     /// Returns what is known of two formulas under a temporal operator.
     pub fn between(op: BetweenOp, a: &Fact, b: &Fact) -> Fact
-        ensures { (i : Interval) (o q : Maybe Tree) → Tells a.now o → Tells b.now q
-            → Tells result (Some (formula (ranged op i (formula_in o) (formula_in q)))) }
+        ensures { (m : Mode) (i : Interval) (o q : Maybe Tree) → Says m a.now o → Says m b.now q
+            → Says m result (Some (formula (ranged op i (formula_in o) (formula_in q)))) }
     {
         let fault = first_fault(fault_of(a), fault_of(b));
         let tenses = tenses_of(a).or(tenses_of(b));

@@ -4,6 +4,7 @@ ghost use Rattle.std.specs.Prelude.{◌≡◌, ℕ, Some, length, position, slic
 ghost use Rattle.std.specs.Str.{bytes_eq};
 ghost use Rattle.c2po_ast.specs.Shape.{shape};
 ghost use Rattle.c2po_unfold.specs.declared.fault.UnfoldFault.TheVariants.{Memory};
+ghost use Rattle.c2po_unfold.specs.Covering.{Mode};
 ghost use Rattle.c2po_unfold.specs.Environment.{Env, fields_in, value_of};
 ghost use Rattle.c2po_unfold.specs.Heads.{Heads, HoldMembers, Names};
 ghost use Rattle.c2po_unfold.specs.Holding.{Fits, Holds, StandsFor};
@@ -19,7 +20,7 @@ use mltl_base::Name;
 impl Unfolding {
     /// The meaning of a declared name.
     fn declared<'a>(&self, name: &Name) -> Named<'a>
-        ensures { (env : Env) → StandsFor self.now env → Names self.now result (env name.now) }
+        ensures { (m : Mode) (env : Env) → StandsFor self.now env → Names m self.now result (env name.now) }
     {
         match self.names.find(name) {
             None => Named::Nothing,
@@ -30,7 +31,7 @@ impl Unfolding {
 
     /// The meaning of a name: the innermost variable of that name, else what is declared.
     fn look<'a>(&self, scope: &'a Scope<'a>, name: &Name) -> Named<'a>
-        ensures { (env : Env) → Fits self.now scope.now env → Names self.now result (env name.now) }
+        ensures { (m : Mode) (env : Env) → Fits m self.now scope.now env → Names m self.now result (env name.now) }
     {
         match scope {
             Scope::Top => self.declared(name),
@@ -57,12 +58,23 @@ impl Unfolding {
                     self.look(outer, name)
                 }
             }
+            Scope::Covered {
+                name: own,
+                summary,
+                outer,
+            } => {
+                if name.bytes() == own.bytes() {
+                    Named::Covered(summary)
+                } else {
+                    self.look(outer, name)
+                }
+            }
         }
     }
 
     /// The place of a field among those of a struct.
     fn field_place(&self, scope: &Scope<'_>, whole: &Name, field: &Name) -> Option<usize>
-        ensures { (env : Env) → Fits self.now scope.now env
+        ensures { (m : Mode) (env : Env) → Fits m self.now scope.now env
             → result ≡ position (bytes_eq field.now) (fields_in (env whole.now)) }
     {
         let Named::Struct(i) = self.look(scope, whole) else {
@@ -74,7 +86,7 @@ impl Unfolding {
 
     /// The part of a stored struct's value that a field names; another value is its own part.
     fn held_part(&self, scope: &Scope<'_>, stored: Stored, field: &Name) -> Stored
-        ensures { (env : Env) (v : Value) → Fits self.now scope.now env → Holds self.now stored v
+        ensures { (m : Mode) (env : Env) (v : Value) → Fits m self.now scope.now env → Holds self.now stored v
             → Holds self.now result (picked (λ y. fields_in (env y)) field.now v) }
     {
         let Location::Parts(i) = stored.location else {
@@ -97,7 +109,7 @@ impl Unfolding {
 
     /// The stored value that an expression leads to by names and picked fields, where it does.
     pub(crate) fn held_value(&self, levels: u32, scope: &Scope<'_>, e: &Expr) -> Option<Stored>
-        ensures { (env : Env) → Fits self.now scope.now env
+        ensures { (m : Mode) (env : Env) → Fits m self.now scope.now env
             → IfSome result (λ s. Holds self.now s (value_of (shape e.now) env)) }
     {
         match &e.node {
@@ -122,8 +134,8 @@ impl Unfolding {
         scope: &'a Scope<'a>,
         e: &'a Expr,
     ) -> Result<Head<'a>, UnfoldFault>
-        ensures head { (env : Env) → Fits self.now scope.now env
-            → IfOk result (λ h. Heads self.now h (value_of (shape e.now) env)) }
+        ensures head { (m : Mode) (env : Env) → Fits m self.now scope.now env
+            → IfOk result (λ h. Heads m self.now h (value_of (shape e.now) env)) }
         ensures memory { IfErr result (λ why. why ≡ Memory) }
     {
         let levels = deeper(levels)?;
@@ -131,6 +143,7 @@ impl Unfolding {
             Node::Ref(name) => match self.look(scope, name) {
                 Named::Open(within, expr) => self.head(levels, within, expr),
                 Named::Held(stored) => Ok(Head::Held(stored)),
+                Named::Covered(summary) => Ok(Head::Covered(summary)),
                 Named::Nothing | Named::Struct(_) => Ok(Head::Nothing(scope, e)),
             },
             Node::Pick(whole, field) => {
@@ -152,9 +165,9 @@ impl Unfolding {
         whole: Head<'a>,
         field: &Name,
     ) -> Result<Head<'a>, UnfoldFault>
-        ensures head { (env : Env) (v : Value) → Fits self.now scope.now env
-            → Heads self.now whole.entry v
-            → IfOk result (λ h. Heads self.now h (picked (λ y. fields_in (env y)) field.now v)) }
+        ensures head { (m : Mode) (env : Env) (v : Value) → Fits m self.now scope.now env
+            → Heads m self.now whole.entry v
+            → IfOk result (λ h. Heads m self.now h (picked (λ y. fields_in (env y)) field.now v)) }
         ensures memory { IfErr result (λ why. why ≡ Memory) }
     {
         let levels = deeper(levels)?;
@@ -169,18 +182,18 @@ impl Unfolding {
                 }
             }
             Head::Held(stored) => Ok(Head::Held(self.held_part(scope, stored, field))),
-            Head::Nothing(..) | Head::Set(..) | Head::Leaf(..) => Ok(whole),
+            Head::Nothing(..) | Head::Set(..) | Head::Leaf(..) | Head::Covered(_) => Ok(whole),
         }
     }
 
     /// The number of members of a set; nothing else has any.
     pub(crate) fn member_count(&self, set: &Head<'_>) -> usize
-        ensures { (v : Value) → Heads self.now set.now v → result ≡ length (members v) }
+        ensures { (m : Mode) (v : Value) → Heads m self.now set.now v → result ≡ length (members v) }
     {
         match *set {
             Head::Set(_, _, members) => members.len(),
             Head::Held(stored) => self.held_members(stored).len(),
-            Head::Nothing(..) | Head::Struct(..) | Head::Leaf(..) => 0,
+            Head::Nothing(..) | Head::Struct(..) | Head::Leaf(..) | Head::Covered(_) => 0,
         }
     }
 
@@ -207,9 +220,9 @@ impl Unfolding {
         set: &Head<'a>,
         i: usize,
     ) -> Result<Head<'a>, UnfoldFault>
-        ensures head { (s v : Value) → Heads self.now set.now s
+        ensures head { (m : Mode) (s v : Value) → Heads m self.now set.now s
             → slice_get (members s) i ≡ Some v
-            → IfOk result (λ h. Heads self.now h v) }
+            → IfOk result (λ h. Heads m self.now h v) }
         ensures memory { IfErr result (λ why. why ≡ Memory) }
     {
         match *set {
@@ -221,7 +234,7 @@ impl Unfolding {
                 Some(member) => Ok(Head::Held(*member)),
                 None => Ok(*set),
             },
-            Head::Nothing(..) | Head::Struct(..) | Head::Leaf(..) => Ok(*set),
+            Head::Nothing(..) | Head::Struct(..) | Head::Leaf(..) | Head::Covered(_) => Ok(*set),
         }
     }
 }

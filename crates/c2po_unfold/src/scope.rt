@@ -1,11 +1,13 @@
 //! Variables of quantifiers, which are members of sets that aren't unfolded yet.
 
 ghost use Rattle.c2po_unfold.specs.declared.unfolding.Unfolding.{Unfolding};
+ghost use Rattle.c2po_unfold.specs.Covering.{Mode};
 ghost use Rattle.c2po_unfold.specs.Environment.{Env, bind};
 ghost use Rattle.c2po_unfold.specs.Heads.{Heads};
 ghost use Rattle.c2po_unfold.specs.Holding.{Fits};
 ghost use Rattle.c2po_unfold.specs.Values.{Value};
 
+use crate::summary::Summary;
 use crate::values::Stored;
 use c2po_ast::Expr;
 use mltl_base::Name;
@@ -27,6 +29,12 @@ pub enum Scope<'a> {
         stored: Stored,
         outer: &'a Scope<'a>,
     },
+    /// The variable is any integer or formula of which this is known.
+    Covered {
+        name: &'a Name,
+        summary: &'a Summary,
+        outer: &'a Scope<'a>,
+    },
 }
 
 /// Where an expression stands: the variables around it, and how deep it may still be nested.
@@ -44,6 +52,8 @@ pub enum Named<'a> {
     Struct(u32),
     Open(&'a Scope<'a>, &'a Expr),
     Held(Stored),
+    /// An integer or a formula of which this is known.
+    Covered(&'a Summary),
 }
 
 /// A value as far as it is looked at: what names and picked fields lead to.
@@ -58,14 +68,16 @@ pub enum Head<'a> {
     /// A number, a Boolean, an operator or a quantifier.
     Leaf(&'a Scope<'a>, &'a Expr),
     Held(Stored),
+    /// An integer or a formula of which this is known.
+    Covered(&'a Summary),
 }
 
 impl<'a> Scope<'a> {
     /// The scope in which a variable is a value, by what that leads to: this is found once, however often the variable
     /// is used.
     pub(crate) fn bound(name: &'a Name, head: Head<'a>, outer: &'a Scope<'a>) -> Scope<'a>
-        ensures { (u : Unfolding) (env : Env) (v : Value) → Fits u outer.now env
-            → Heads u head.entry v → Fits u result (bind name.now v env) }
+        ensures { (m : Mode) (u : Unfolding) (env : Env) (v : Value) → Fits m u outer.now env
+            → Heads m u head.entry v → Fits m u result (bind name.now v env) }
     {
         match head {
             Head::Nothing(within, expr)
@@ -80,6 +92,11 @@ impl<'a> Scope<'a> {
             Head::Held(stored) => Scope::Held {
                 name,
                 stored,
+                outer,
+            },
+            Head::Covered(summary) => Scope::Covered {
+                name,
+                summary,
                 outer,
             },
         }

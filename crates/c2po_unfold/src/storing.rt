@@ -4,6 +4,7 @@ ghost use Rattle.std.specs.Prelude.{◌≡◌, ◌+◌, ◌<◌, ◌≤◌, IfOk
 ghost use Rattle.mltl_base.specs.declared.limits.TheConstants.{MAX_WEIGHT};
 ghost use Rattle.c2po_ast.specs.Shape.{shape, shapes};
 ghost use Rattle.c2po_unfold.specs.declared.fault.UnfoldFault.TheVariants.{Heavy};
+ghost use Rattle.c2po_unfold.specs.Covering.{exact};
 ghost use Rattle.c2po_unfold.specs.Environment.{Env, value_of, values_of};
 ghost use Rattle.c2po_unfold.specs.Holding.{Fits, HoldAll, Holds, IsLater};
 ghost use Rattle.c2po_unfold.specs.Weights.{parts_weight, weight};
@@ -31,9 +32,9 @@ impl Unfolding {
         requires { room ≤ MAX_WEIGHT }
         ensures later { OnOk result (IsLater self.old self.new) }
         ensures light { IfOk result (λ s. s.weight ≤ room) }
-        ensures holds { (env : Env) → Fits self.old at.entry.scope.now env
+        ensures holds { (env : Env) → Fits exact self.old at.entry.scope.now env
             → IfOk result (λ s. Holds self.new s (value_of (shape e.now) env)) }
-        ensures heavy { (env : Env) → Fits self.old at.entry.scope.now env
+        ensures heavy { (env : Env) → Fits exact self.old at.entry.scope.now env
             → IfErr result (λ why. why ≡ Heavy → room < weight (value_of (shape e.now) env)) }
     {
         let depth = deeper(at.depth)?;
@@ -42,6 +43,10 @@ impl Unfolding {
             Head::Held(stored) => {
                 less(room, stored.weight)?;
                 Ok(stored)
+            }
+            Head::Covered(summary) => {
+                less(room, summary.weight)?;
+                Ok(self.add_leaf(*summary)?)
             }
             Head::Struct(scope, _, name, parts) => {
                 let within = Site { depth, scope };
@@ -72,11 +77,11 @@ impl Unfolding {
         requires { room ≤ MAX_WEIGHT }
         ensures later { OnOk result (IsLater self.old self.new) }
         ensures light { IfOk result (λ r. r.1 ≤ room) }
-        ensures holds { (env : Env) → Fits self.old at.entry.scope.now env
+        ensures holds { (env : Env) → Fits exact self.old at.entry.scope.now env
             → IfOk result (λ r. HoldAll self.new r.0 (values_of (shapes es.now) env)) }
-        ensures weight { (env : Env) → Fits self.old at.entry.scope.now env
+        ensures weight { (env : Env) → Fits exact self.old at.entry.scope.now env
             → IfOk result (λ r. r.1 ≡ 1 + parts_weight (values_of (shapes es.now) env)) }
-        ensures heavy { (env : Env) → Fits self.old at.entry.scope.now env
+        ensures heavy { (env : Env) → Fits exact self.old at.entry.scope.now env
             → IfErr result (λ why. why ≡ Heavy
             → room < 1 + parts_weight (values_of (shapes es.now) env)) }
     {

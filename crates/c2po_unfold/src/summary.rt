@@ -1,13 +1,14 @@
 //! What is known of values without their nodes.
 
-ghost use Rattle.std.specs.Prelude.{◌≡◌, ◌+◌, ◌<◌, ◌≤◌, ◌^◌, ℕ, [], ◌∷◌, Some, IfOk, IfErr};
+ghost use Rattle.std.specs.Prelude.{◌≡◌, ◌+◌, ◌<◌, ◌≤◌, ◌^◌, ℕ, true, [], ◌∷◌, Some, IfOk, IfErr};
 ghost use Rattle.mltl_base.specs.declared.operators.CountOp.{CountOp};
 ghost use Rattle.mltl_base.specs.declared.operators.LogicOp.{LogicOp};
+ghost use Rattle.c2po_unfold.specs.Covering.{Mode, Says, covering};
 ghost use Rattle.c2po_unfold.specs.Facts.{Tells};
 ghost use Rattle.c2po_unfold.specs.declared.fault.UnfoldFault.TheVariants.{Heavy};
 ghost use Rattle.c2po_unfold.specs.Environment.{signal_value};
 ghost use Rattle.c2po_unfold.specs.Operators.{binary_value, unary_value};
-ghost use Rattle.c2po_unfold.specs.Summaries.{IsSummary};
+ghost use Rattle.c2po_unfold.specs.Summaries.{IsOfLeaf, IsSummary};
 ghost use Rattle.c2po_unfold.specs.Values.{Leaf, Value, connected_all, counted, leaf, leaf_tree, tree_in};
 ghost use Rattle.c2po_unfold.specs.Weights.{leaf_weight};
 
@@ -28,8 +29,8 @@ impl Summary {
     /// Returns what is known of a number or of a Boolean, which weighs one.
     pub(crate) fn token(fact: Fact, room: u32) -> Result<Summary, UnfoldFault>
         ensures light { IfOk result (λ s. s.weight ≤ room) }
-        ensures holds { (l : Leaf) → leaf_weight l ≡ 1 → Tells fact (Some (leaf_tree l))
-            → IfOk result (λ s. IsSummary s (leaf l)) }
+        ensures holds { (m : Mode) (l : Leaf) → leaf_weight l ≡ 1
+            → Tells fact (Some (leaf_tree l)) → IfOk result (λ s. IsSummary m s (leaf l)) }
         ensures heavy { IfErr result (λ why. why ≡ Heavy → room < 1) }
     {
         less(room, 1)?;
@@ -39,8 +40,9 @@ impl Summary {
     /// Returns what is known of a quantifier over no member, which is false and weighs nothing.
     pub(crate) fn none() -> Summary
         ensures weight { result.weight ≡ 0 }
-        ensures joined { (op : LogicOp) → IsSummary result (connected_all op []) }
-        ensures counted { (op : CountOp) (number : ℕ) → IsSummary result (counted op number []) }
+        ensures joined { (m : Mode) (op : LogicOp) → IsSummary m result (connected_all op []) }
+        ensures counted { (m : Mode) (op : CountOp) (number : ℕ)
+            → IsSummary m result (counted op number []) }
     {
         let fact = Fact::truth();
         Summary { weight: 0, fact }
@@ -49,8 +51,8 @@ impl Summary {
     /// Returns what is known of a value as the only body of a quantifier, which is a formula.
     pub(crate) fn as_formula(&self) -> Summary
         ensures weight { result.weight ≡ self.now.weight }
-        ensures holds { (op : LogicOp) (v : Value) → IsSummary self.now v
-            → IsSummary result (connected_all op (v ∷ [])) }
+        ensures holds { (m : Mode) (op : LogicOp) (v : Value) → IsSummary m self.now v
+            → IsSummary m result (connected_all op (v ∷ [])) }
     {
         let fact = Fact::formula(&self.fact);
         Summary {
@@ -59,11 +61,37 @@ impl Summary {
         }
     }
 
+    /// Whether this covers what is known of another integer or formula.
+    pub(crate) fn covers(&self, other: &Summary) -> bool
+        ensures { (m : Mode) (v : Value) → result ≡ true → IsOfLeaf m other.now v
+            → IsOfLeaf covering self.now v }
+    {
+        self.weight == other.weight && self.fact.covers(&other.fact)
+    }
+
+    /// Returns what covers both, if there is such. Whether it does is for the caller to see.
+    pub(crate) fn widest(&self, other: &Summary) -> Option<Summary> {
+        let fact = self.fact.widest(&other.fact)?;
+        Some(Summary {
+            weight: self.weight,
+            fact,
+        })
+    }
+
+    /// Whether this is of a formula without a fault, of which nothing else can be known.
+    pub(crate) fn is_certain(&self) -> bool
+        ensures { (m : Mode) (v : Value) → result ≡ true → IsSummary covering self.now v
+            → IsSummary m self.now v }
+    {
+        self.fact.is_certain()
+    }
+
     /// Returns what is known of an operator over one operand.
     pub(crate) fn over_one(op: UnaryOp, a: &Summary) -> Summary
         requires { a.now.weight + 1 < 2 ^ 32 }
         ensures weight { result.weight ≡ a.now.weight + 1 }
-        ensures holds { (v : Value) → IsSummary a.now v → IsSummary result (unary_value op v) }
+        ensures holds { (m : Mode) (v : Value) → IsSummary m a.now v
+            → IsSummary m result (unary_value op v) }
     {
         let fact = unary_fact(op, &a.fact);
         Summary {
@@ -76,8 +104,8 @@ impl Summary {
     pub(crate) fn over_two(op: BinaryOp, a: &Summary, b: &Summary) -> Summary
         requires { a.now.weight + b.now.weight + 1 < 2 ^ 32 }
         ensures weight { result.weight ≡ a.now.weight + b.now.weight + 1 }
-        ensures holds { (v w : Value) → IsSummary a.now v → IsSummary b.now w
-            → IsSummary result (binary_value op v w) }
+        ensures holds { (m : Mode) (v w : Value) → IsSummary m a.now v → IsSummary m b.now w
+            → IsSummary m result (binary_value op v w) }
     {
         let fact = binary_fact(op, &a.fact, &b.fact);
         Summary {
@@ -89,8 +117,8 @@ impl Summary {
 
 /// What is known of an operator over one operand.
 fn unary_fact(op: UnaryOp, a: &Fact) -> Fact
-    ensures { (v : Value) → Tells a.now (tree_in v)
-        → Tells result (tree_in (unary_value op v)) }
+    ensures { (m : Mode) (v : Value) → Says m a.now (tree_in v)
+        → Says m result (tree_in (unary_value op v)) }
 {
     match op {
         UnaryOp::Minus => Fact::negative(a),
@@ -101,8 +129,8 @@ fn unary_fact(op: UnaryOp, a: &Fact) -> Fact
 
 /// What is known of an operator over two operands.
 fn binary_fact(op: BinaryOp, a: &Fact, b: &Fact) -> Fact
-    ensures { (v w : Value) → Tells a.now (tree_in v) → Tells b.now (tree_in w)
-        → Tells result (tree_in (binary_value op v w)) }
+    ensures { (m : Mode) (v w : Value) → Says m a.now (tree_in v) → Says m b.now (tree_in w)
+        → Says m result (tree_in (binary_value op v w)) }
 {
     match op {
         BinaryOp::Arith(op) => Fact::computed(op, a, b),

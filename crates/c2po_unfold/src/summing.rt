@@ -1,6 +1,6 @@
 //! What is known of expressions, without their nodes.
 
-ghost use Rattle.std.specs.Prelude.{◌≡◌, ◌+◌, ◌<◌, ◌≤◌, true, length, map, sum_by, slice_get, Some, None, IfOk, IfErr};
+ghost use Rattle.std.specs.Prelude.{◌≡◌, ◌+◌, ◌<◌, ◌≤◌, true, length, map, sum_by, slice_get, Some, None, IfOk, IfErr, IfSome};
 ghost use Rattle.mltl_base.specs.declared.limits.TheConstants.{MAX_WEIGHT};
 ghost use Rattle.c2po_ast.specs.Shape.{shape, shapes};
 ghost use Rattle.c2po_unfold.specs.Facts.{Tells};
@@ -8,12 +8,15 @@ ghost use Rattle.c2po_nodes.specs.Nodes.{formula};
 ghost use Rattle.c2po_unfold.specs.declared.fault.UnfoldFault.TheVariants.{Heavy};
 ghost use Rattle.c2po_unfold.specs.declared.fact.Fact.TheVariants.{Parts};
 ghost use Rattle.c2po_unfold.specs.declared.scope.Head.TheVariants.{Held};
+ghost use Rattle.c2po_unfold.specs.declared.scope.Scope.{Scope as Variables};
+ghost use Rattle.c2po_unfold.specs.declared.operators.Bodies.{Bodies as Operands};
 ghost use Rattle.c2po_unfold.specs.Bodies.{IsOfBody};
+ghost use Rattle.c2po_unfold.specs.Covering.{Mode, Says, covering};
 ghost use Rattle.c2po_unfold.specs.Environment.{Env, value_of, values_of};
 ghost use Rattle.c2po_unfold.specs.Heads.{Heads, is_operator};
 ghost use Rattle.c2po_unfold.specs.Operators.{binary_value, bodies_of, body_value, unary_value};
 ghost use Rattle.c2po_unfold.specs.Holding.{Fits, Holds};
-ghost use Rattle.c2po_unfold.specs.Summaries.{IsSummary, gathered};
+ghost use Rattle.c2po_unfold.specs.Summaries.{IsOfLeaf, IsSummary, gathered};
 ghost use Rattle.c2po_unfold.specs.Values.{Value, counted, formula_of, connected_all, members, tree_in};
 ghost use Rattle.c2po_unfold.specs.Weights.{parts_weight, weight};
 
@@ -25,7 +28,7 @@ use crate::scope::{Head, Scope, Site};
 use crate::summary::Summary;
 use crate::values::{Location, Stored};
 use crate::{UnfoldFault, Unfolding};
-use c2po_ast::Expr;
+use c2po_ast::{Expr, Node};
 use mltl_base::{CountOp, LogicOp};
 
 /// What is known of the bodies of a quantifier together: their number, what is known of their formulas from the last to
@@ -47,20 +50,43 @@ fn held_in(head: &Head<'_>) -> Option<Stored>
     }
 }
 
-/// What is known of the body of a quantifier where its variable is a stored value, if it is.
+/// The number of members from which on a body is tried with what covers them all. Where that fails, one body was checked
+/// in vain. At most five such quantifiers can stand within one another, for their weight, so that is less than as much
+/// again.
+const WORTH_TRYING: usize = 8;
+
+/// What is known of the body of a quantifier where its variable is a stored value, if it is, or anything that a summary
+/// covers.
 #[derive(Clone, Copy)]
 pub(crate) struct BodyFact {
     member: Option<Stored>,
+    cover: Option<Summary>,
     summary: Summary,
 }
 
+/// What is known of a number that stands in the text, if it is one.
+fn number_summary(e: &Expr) -> Option<Summary>
+    ensures { (m : Mode) (env : Env)
+        → IfSome result (λ s. IsOfLeaf m s (value_of (shape e.now) env)) }
+{
+    match &e.node {
+        Node::Number(n) => Some(Summary {
+            weight: 1,
+            fact: Fact::constant(*n),
+        }),
+        _ => None,
+    }
+}
+
 impl BodyFact {
-    /// Nothing is known of any stored value.
+    /// Nothing is known of any value.
     fn none() -> BodyFact
-        ensures { result.member ≡ None }
+        ensures member { result.member ≡ None }
+        ensures cover { result.cover ≡ None }
     {
         BodyFact {
             member: None,
+            cover: None,
             summary: Summary::none(),
         }
     }
@@ -94,7 +120,7 @@ impl Unfolding {
     /// What is known of a stored value.
     fn held(&self, stored: Stored) -> Summary
         ensures weight { result.weight ≡ stored.weight }
-        ensures holds { (v : Value) → Holds self.now stored v → IsSummary result v }
+        ensures holds { (m : Mode) (v : Value) → Holds self.now stored v → IsSummary m result v }
     {
         let fact = self.held_fact(stored);
         Summary {
@@ -103,14 +129,81 @@ impl Unfolding {
         }
     }
 
+    /// What is known of a stored value, if it is an integer or a formula.
+    fn held_leaf(&self, stored: Stored) -> Option<Summary>
+        ensures { (m : Mode) (v : Value) → Holds self.now stored v
+            → IfSome result (λ s. IsOfLeaf m s v) }
+    {
+        match stored.location {
+            Location::Leaf(_) => Some(self.held(stored)),
+            Location::Parts(_) => None,
+        }
+    }
+
+    /// What is known of what a member leads to, where that is an integer or a formula that needs no check.
+    fn known_member(&self, head: &Head<'_>) -> Option<Summary>
+        ensures { (m : Mode) (v : Value) → Heads m self.now head.now v
+            → IfSome result (λ s. IsOfLeaf m s v) }
+    {
+        match *head {
+            Head::Held(stored) => self.held_leaf(stored),
+            Head::Covered(summary) => Some(*summary),
+            Head::Leaf(_, e) => number_summary(e),
+            Head::Nothing(..) | Head::Struct(..) | Head::Set(..) => None,
+        }
+    }
+
+    /// What covers all members of a set, if there is such. Whether it does is for the caller to see.
+    fn widest(&self, depth: u32, set: &Head<'_>, first: Summary) -> Option<Summary> {
+        let mut widest = first;
+        for i in 0..self.member_count(set) {
+            let head = self.member(depth, set, i).ok()?;
+            let member = self.known_member(&head)?;
+            widest = widest.widest(&member)?;
+        }
+        Some(widest)
+    }
+
+    /// What covers the members of a set and the first one in any case, where they are many.
+    fn cover(&self, depth: u32, set: &Head<'_>, first: &Head<'_>) -> Option<Summary>
+        ensures { (m : Mode) (v : Value) → Heads m self.now first.now v
+            → IfSome result (λ s. IsOfLeaf covering s v) }
+    {
+        if self.member_count(set) < WORTH_TRYING {
+            return None;
+        }
+        let first = self.known_member(first)?;
+        let cover = self.widest(depth, set, first)?;
+        if cover.covers(&first) {
+            Some(cover)
+        } else {
+            None
+        }
+    }
+
+    /// Whether what is known of a body is so for what a member leads to.
+    fn is_known(&self, known: &BodyFact, head: &Head<'_>) -> bool
+        ensures { (m : Mode) (scope : Variables) (q : Operands) (env : Env) (v : Value)
+            → result ≡ true → IsOfBody self.now scope q known.now → Fits m self.now scope env
+            → Heads m self.now head.now v → IsSummary m known.now.summary (body_value q env v) }
+    {
+        if known.is_of(head) {
+            return true;
+        }
+        match (known.cover, self.known_member(head)) {
+            (Some(cover), Some(member)) => cover.covers(&member),
+            _ => false,
+        }
+    }
+
     /// What is known of the value of an expression.
     #[cycle(summing)]
     pub(crate) fn summary(&self, at: Site<'_>, e: &Expr, room: u32) -> Result<Summary, UnfoldFault>
         requires { room ≤ MAX_WEIGHT }
         ensures light { IfOk result (λ s. s.weight ≤ room) }
-        ensures holds { (env : Env) → Fits self.now at.entry.scope.now env
-            → IfOk result (λ s. IsSummary s (value_of (shape e.now) env)) }
-        ensures heavy { (env : Env) → Fits self.now at.entry.scope.now env
+        ensures holds { (m : Mode) (env : Env) → Fits m self.now at.entry.scope.now env
+            → IfOk result (λ s. IsSummary m s (value_of (shape e.now) env)) }
+        ensures heavy { (m : Mode) (env : Env) → Fits m self.now at.entry.scope.now env
             → IfErr result (λ why. why ≡ Heavy → room < weight (value_of (shape e.now) env)) }
     {
         let depth = deeper(at.depth)?;
@@ -131,6 +224,10 @@ impl Unfolding {
                 less(room, stored.weight)?;
                 Ok(self.held(stored))
             }
+            Head::Covered(summary) => {
+                less(room, summary.weight)?;
+                Ok(*summary)
+            }
             Head::Struct(scope, _, _, parts) => {
                 self.parts_summary(Site { depth, scope }, parts, room)
             }
@@ -147,9 +244,9 @@ impl Unfolding {
         requires { room ≤ MAX_WEIGHT }
         ensures light { IfOk result (λ s. s.weight ≤ room) }
         ensures parts { IfOk result (λ s. s.fact ≡ Parts) }
-        ensures weight { (env : Env) → Fits self.now at.entry.scope.now env
+        ensures weight { (m : Mode) (env : Env) → Fits m self.now at.entry.scope.now env
             → IfOk result (λ s. s.weight ≡ 1 + parts_weight (values_of (shapes es.now) env)) }
-        ensures heavy { (env : Env) → Fits self.now at.entry.scope.now env
+        ensures heavy { (m : Mode) (env : Env) → Fits m self.now at.entry.scope.now env
             → IfErr result (λ why. why ≡ Heavy
             → room < 1 + parts_weight (values_of (shapes es.now) env)) }
     {
@@ -169,10 +266,10 @@ impl Unfolding {
     pub(crate) fn operator(&self, at: Site<'_>, e: &Expr, room: u32) -> Result<Summary, UnfoldFault>
         requires { room ≤ MAX_WEIGHT }
         ensures light { IfOk result (λ s. s.weight ≤ room) }
-        ensures holds { (env : Env) → Fits self.now at.entry.scope.now env
+        ensures holds { (m : Mode) (env : Env) → Fits m self.now at.entry.scope.now env
             → is_operator (shape e.now) ≡ true
-            → IfOk result (λ s. IsSummary s (value_of (shape e.now) env)) }
-        ensures heavy { (env : Env) → Fits self.now at.entry.scope.now env
+            → IfOk result (λ s. IsSummary m s (value_of (shape e.now) env)) }
+        ensures heavy { (m : Mode) (env : Env) → Fits m self.now at.entry.scope.now env
             → is_operator (shape e.now) ≡ true
             → IfErr result (λ why. why ≡ Heavy → room < weight (value_of (shape e.now) env)) }
     {
@@ -193,9 +290,9 @@ impl Unfolding {
     fn unary(&self, at: Site<'_>, op: UnaryOp, a: &Expr, room: u32) -> Result<Summary, UnfoldFault>
         requires { room ≤ MAX_WEIGHT }
         ensures light { IfOk result (λ s. s.weight ≤ room) }
-        ensures holds { (env : Env) → Fits self.now at.entry.scope.now env
-            → IfOk result (λ s. IsSummary s (unary_value op (value_of (shape a.now) env))) }
-        ensures heavy { (env : Env) → Fits self.now at.entry.scope.now env
+        ensures holds { (m : Mode) (env : Env) → Fits m self.now at.entry.scope.now env
+            → IfOk result (λ s. IsSummary m s (unary_value op (value_of (shape a.now) env))) }
+        ensures heavy { (m : Mode) (env : Env) → Fits m self.now at.entry.scope.now env
             → IfErr result (λ why. why ≡ Heavy
             → room < weight (unary_value op (value_of (shape a.now) env))) }
     {
@@ -216,10 +313,10 @@ impl Unfolding {
     ) -> Result<Summary, UnfoldFault>
         requires { room ≤ MAX_WEIGHT }
         ensures light { IfOk result (λ s. s.weight ≤ room) }
-        ensures holds { (env : Env) → Fits self.now at.entry.scope.now env
-            → IfOk result (λ s. IsSummary s
+        ensures holds { (m : Mode) (env : Env) → Fits m self.now at.entry.scope.now env
+            → IfOk result (λ s. IsSummary m s
             (binary_value op (value_of (shape a.now) env) (value_of (shape b.now) env))) }
-        ensures heavy { (env : Env) → Fits self.now at.entry.scope.now env
+        ensures heavy { (m : Mode) (env : Env) → Fits m self.now at.entry.scope.now env
             → IfErr result (λ why. why ≡ Heavy → room < weight
             (binary_value op (value_of (shape a.now) env) (value_of (shape b.now) env))) }
     {
@@ -240,9 +337,9 @@ impl Unfolding {
     ) -> Result<Summary, UnfoldFault>
         requires { room ≤ MAX_WEIGHT }
         ensures light { IfOk result (λ s. s.weight ≤ room) }
-        ensures holds { (env : Env) → Fits self.now at.entry.scope.now env
-            → IfOk result (λ s. IsSummary s (connected_all op (bodies_of bodies.entry env))) }
-        ensures heavy { (env : Env) → Fits self.now at.entry.scope.now env
+        ensures holds { (m : Mode) (env : Env) → Fits m self.now at.entry.scope.now env
+            → IfOk result (λ s. IsSummary m s (connected_all op (bodies_of bodies.entry env))) }
+        ensures heavy { (m : Mode) (env : Env) → Fits m self.now at.entry.scope.now env
             → IfErr result
             (λ why. why ≡ Heavy → room < weight (connected_all op (bodies_of bodies.entry env))) }
     {
@@ -278,21 +375,26 @@ impl Unfolding {
         requires bounded { room ≤ MAX_WEIGHT }
         requires known { IsOfBody self.now at.scope.now bodies last }
         ensures light { IfOk result (λ r. r.summary.weight ≤ room) }
-        ensures holds { (env : Env) (s v : Value) → Fits self.now at.entry.scope.now env
-            → Heads self.now set.now s
+        ensures holds { (m : Mode) (env : Env) (s v : Value) → Fits m self.now at.entry.scope.now env
+            → Heads m self.now set.now s
             → slice_get (members s) i ≡ Some v
-            → IfOk result (λ r. IsSummary r.summary (body_value bodies.entry env v)) }
+            → IfOk result (λ r. IsSummary m r.summary (body_value bodies.entry env v)) }
         ensures known { IfOk result (λ r.
             IsOfBody self.now at.entry.scope.now bodies.entry r) }
-        ensures heavy { (env : Env) (s v : Value) → Fits self.now at.entry.scope.now env
-            → Heads self.now set.now s
+        ensures heavy { (m : Mode) (env : Env) (s v : Value) → Fits m self.now at.entry.scope.now env
+            → Heads m self.now set.now s
             → slice_get (members s) i ≡ Some v
             → IfErr result (λ why. why ≡ Heavy → room < weight (body_value bodies.entry env v)) }
     {
         let head = self.member(at.depth, set, i)?;
-        if last.is_of(&head) {
+        if self.is_known(&last, &head) {
             less(room, last.summary.weight)?;
             return Ok(last);
+        }
+        if i == 0 {
+            if let Some(known) = self.covered_body(at, bodies, set, &head, room)? {
+                return Ok(known);
+            }
         }
         let scope = &Scope::bound(&*bodies.name, head, &*at.scope);
         let within = Site {
@@ -301,7 +403,54 @@ impl Unfolding {
         };
         let summary = self.summary(within, bodies.body, room)?;
         let member = held_in(&head);
-        Ok(BodyFact { member, summary })
+        Ok(BodyFact {
+            member,
+            cover: None,
+            summary,
+        })
+    }
+
+    /// What is known of the body of a quantifier where its variable is anything that covers the members of its set: a
+    /// formula without a fault, if it is one.
+    #[cycle(summing)]
+    fn covered_body(
+        &self,
+        at: Site<'_>,
+        bodies: Bodies<'_>,
+        set: &Head<'_>,
+        first: &Head<'_>,
+        room: u32,
+    ) -> Result<Option<BodyFact>, UnfoldFault>
+        requires { room ≤ MAX_WEIGHT }
+        ensures light { IfOk result (λ r. IfSome r (λ known. known.summary.weight ≤ room)) }
+        ensures known { IfOk result (λ r. IfSome r (λ known.
+            IsOfBody self.now at.entry.scope.now bodies.entry known)) }
+        ensures holds { (m : Mode) (env : Env) (v : Value)
+            → Fits m self.now at.entry.scope.now env → Heads m self.now first.now v
+            → IfOk result (λ r. IfSome r (λ known.
+            IsSummary m known.summary (body_value bodies.entry env v))) }
+        ensures heavy { (m : Mode) (env : Env) (v : Value)
+            → Fits m self.now at.entry.scope.now env → Heads m self.now first.now v
+            → IfErr result (λ why. why ≡ Heavy → room < weight (body_value bodies.entry env v)) }
+    {
+        let Some(cover) = self.cover(at.depth, set, first) else {
+            return Ok(None);
+        };
+        let head = Head::Covered(&cover);
+        let scope = &Scope::bound(&*bodies.name, head, &*at.scope);
+        let within = Site {
+            depth: at.depth,
+            scope,
+        };
+        let summary = self.summary(within, bodies.body, room)?;
+        if !summary.is_certain() {
+            return Ok(None);
+        }
+        Ok(Some(BodyFact {
+            member: None,
+            cover: Some(cover),
+            summary,
+        }))
     }
 
     /// What is known of a counting quantifier over its bodies, one for each member of its set.
@@ -316,9 +465,9 @@ impl Unfolding {
     ) -> Result<Summary, UnfoldFault>
         requires { room ≤ MAX_WEIGHT }
         ensures light { IfOk result (λ s. s.weight ≤ room) }
-        ensures holds { (env : Env) → Fits self.now at.entry.scope.now env
-            → IfOk result (λ s. IsSummary s (counted op number (bodies_of bodies.entry env))) }
-        ensures heavy { (env : Env) → Fits self.now at.entry.scope.now env
+        ensures holds { (m : Mode) (env : Env) → Fits m self.now at.entry.scope.now env
+            → IfOk result (λ s. IsSummary m s (counted op number (bodies_of bodies.entry env))) }
+        ensures heavy { (m : Mode) (env : Env) → Fits m self.now at.entry.scope.now env
             → IfErr result
             (λ why. why ≡ Heavy → room < weight (counted op number (bodies_of bodies.entry env))) }
     {
@@ -338,14 +487,14 @@ impl Unfolding {
     fn gather(&self, at: Site<'_>, bodies: Bodies<'_>, room: u32) -> Result<Gathered, UnfoldFault>
         requires { room ≤ MAX_WEIGHT }
         ensures light { IfOk result (λ r. r.left ≤ room) }
-        ensures count { (env : Env) → Fits self.now at.entry.scope.now env
+        ensures count { (m : Mode) (env : Env) → Fits m self.now at.entry.scope.now env
             → IfOk result (λ r. r.count ≡ length (bodies_of bodies.entry env)) }
-        ensures fact { (env : Env) → Fits self.now at.entry.scope.now env
-            → IfOk result (λ r. Tells r.fact
+        ensures fact { (m : Mode) (env : Env) → Fits m self.now at.entry.scope.now env
+            → IfOk result (λ r. Says m r.fact
             (Some (formula (gathered (map formula_of (bodies_of bodies.entry env)))))) }
-        ensures weight { (env : Env) → Fits self.now at.entry.scope.now env
+        ensures weight { (m : Mode) (env : Env) → Fits m self.now at.entry.scope.now env
             → IfOk result (λ r. room ≡ r.left + sum_by weight (bodies_of bodies.entry env)) }
-        ensures heavy { (env : Env) → Fits self.now at.entry.scope.now env
+        ensures heavy { (m : Mode) (env : Env) → Fits m self.now at.entry.scope.now env
             → IfErr result (λ why. why ≡ Heavy → room < sum_by weight (bodies_of bodies.entry env)) }
     {
         let set = self.head(at.depth, at.scope, bodies.set)?;

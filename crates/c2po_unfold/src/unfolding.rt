@@ -6,6 +6,7 @@ ghost use Rattle.c2po_ast.specs.Shape.{shape};
 ghost use Rattle.c2po_unfold.specs.Facts.{told_fault};
 ghost use Rattle.c2po_unfold.specs.declared.fault.UnfoldFault.TheVariants.{Heavy};
 ghost use Rattle.c2po_unfold.specs.declared.values.Whole.TheVariants.{Struct, Set};
+ghost use Rattle.c2po_unfold.specs.Covering.{exact};
 ghost use Rattle.c2po_unfold.specs.Environment.{Env, Known, declare, fields, no_names, signal_value, value, value_of};
 ghost use Rattle.c2po_unfold.specs.Faults.{value_fault};
 ghost use Rattle.c2po_unfold.specs.Holding.{HoldAll, Holds, IsLater, Means, StandsFor, Weighs};
@@ -160,7 +161,7 @@ impl Unfolding {
     pub(crate) fn add_leaf(&mut self, summary: Summary) -> Result<Stored, AllocError>
         ensures later { OnOk result (IsLater self.old self.new) }
         ensures weight { IfOk result (λ s. s.weight ≡ summary.weight) }
-        ensures holds { (l : Leaf) → IsSummary summary (leaf l)
+        ensures holds { (l : Leaf) → IsSummary exact summary (leaf l)
             → IfOk result (λ s. Holds self.new s (leaf l)) }
     {
         let Summary { weight, fact } = summary;
@@ -187,7 +188,7 @@ impl Unfolding {
         Ok(place)
     }
 
-    /// Stores the parts of a struct's value or of a set.
+    /// Stores the parts of a struct's value or of a set. Those that are the same as the last have the same place.
     pub(crate) fn add_parts(
         &mut self,
         whole: Whole,
@@ -202,14 +203,28 @@ impl Unfolding {
         ensures set { (vs : Values) → whole ≡ Set → HoldAll self.old members vs
             → weight ≡ 1 + parts_weight vs → IfOk result (λ s. Holds self.new s (set vs)) }
     {
-        let place = next_place(self.parts.len())?;
         let fault = first_of(members.as_slice());
-        self.parts.push(Parts { whole, members })?;
+        let place = self.parts_place(whole, members)?;
         Ok(Stored {
             location: Location::Parts(place),
             weight,
             fault,
         })
+    }
+
+    /// Stores parts, and returns their place. Those that are the same as the last have the same place.
+    fn parts_place(&mut self, whole: Whole, members: List<Stored>) -> Result<u32, AllocError>
+        ensures later { OnOk result (IsLater self.old self.new) }
+        ensures there { IfOk result (λ place. slice_get self.new.parts place
+            ≡ Some (record { whole = whole; members = members })) }
+    {
+        let count = self.parts.len();
+        if count > 0 && self.parts.as_slice()[count - 1].are(&whole, members.as_slice()) {
+            return Ok(next_place(count - 1)?);
+        }
+        let place = next_place(count)?;
+        self.parts.push(Parts { whole, members })?;
+        Ok(place)
     }
 }
 

@@ -58,6 +58,40 @@ pub struct Parts {
     pub members: List<Stored>,
 }
 
+impl Whole {
+    /// Whether these are parts of a struct's value of this name, or a set as well.
+    fn is(&self, other: &Whole) -> bool
+        ensures { result ≡ true → self.now ≡ other.now }
+    {
+        match (self, other) {
+            (Whole::Struct(own), Whole::Struct(name)) => own.bytes() == name.bytes(),
+            (Whole::Set, Whole::Set) => true,
+            _ => false,
+        }
+    }
+}
+
+impl Parts {
+    /// Whether these are the same parts, without a fault.
+    pub(crate) fn are(&self, whole: &Whole, members: &[Stored]) -> bool
+        ensures whole { result ≡ true → self.now.whole ≡ whole.now }
+        ensures members { result ≡ true → self.now.members ≡ members.now }
+    {
+        self.whole.is(whole) && are_same(self.members.as_slice(), members)
+    }
+}
+
+/// Whether these are the same stored values in order, without a fault.
+fn are_same(own: &[Stored], others: &[Stored]) -> bool
+    ensures { result ≡ true → own.now ≡ others.now }
+{
+    match (own, others) {
+        ([], []) => true,
+        ([first, rest @ ..], [other, others @ ..]) => { first.is(*other) && are_same(rest, others) }
+        _ => false,
+    }
+}
+
 /// The meaning of a declared name: a struct by its number, or a value.
 #[derive(Clone, Copy)]
 pub enum Entry {

@@ -1,21 +1,21 @@
-use Rattle.std.proofs.Common.{Some, ap, ◌∙◌}
+use Rattle.std.proofs.Common.{◌∙◌}
 use Rattle.c2po_nodes.specs.Nodes.{formula_in}
 use Rattle.c2po_unfold.specs.Facts.{told_fault}
 use Rattle.c2po_unfold.proofs.Knowing.{both_known, known_until, known_since}
 use Rattle.c2po_unfold.proofs.fact.Fact.between.Goals as goal
 
 pub returns-in-U : goal.returns-in-U
-returns-in-U c = λ i o q h k.
-    let both = both_known c.args.a.now c.args.b.now o q (told_fault c.first_fault-fault.result) c.or-tenses.result.past c.or-tenses.result.future
+returns-in-U c = λ m i o q h k.
+    let both = both_known m c.args.a.now c.args.b.now o q (told_fault c.first_fault-fault.result) c.or-tenses.result.past c.or-tenses.result.future
     (rw (← c.fault_of.ensures, ← c.fault_of-2.ensures) c.first_fault-fault.ensures)
     (rw (← c.tenses_of.ensures.past, ← c.tenses_of-2.ensures.past) c.or-tenses.ensures.past)
     (rw (← c.tenses_of.ensures.future, ← c.tenses_of-2.ensures.future) c.or-tenses.ensures.future) h k in
-    ap Some (known_until c.args.op i (formula_in o) (formula_in q) _ _ _ c.in-U.is both.0 (c.and_future.ensures.past ∙ both.1) c.and_future.ensures.future)
+    (known_until m c.args.op i (formula_in o) (formula_in q) _ _ _ c.in-U.is both.0 (c.and_future.ensures.past ∙ both.1) c.and_future.ensures.future)
 
 pub returns-in-S : goal.returns-in-S
-returns-in-S c = λ i o q h k.
-    let both = both_known c.args.a.now c.args.b.now o q (told_fault c.first_fault-fault.result) c.or-tenses.result.past c.or-tenses.result.future
+returns-in-S c = λ m i o q h k.
+    let both = both_known m c.args.a.now c.args.b.now o q (told_fault c.first_fault-fault.result) c.or-tenses.result.past c.or-tenses.result.future
     (rw (← c.fault_of.ensures, ← c.fault_of-2.ensures) c.first_fault-fault.ensures)
     (rw (← c.tenses_of.ensures.past, ← c.tenses_of-2.ensures.past) c.or-tenses.ensures.past)
     (rw (← c.tenses_of.ensures.future, ← c.tenses_of-2.ensures.future) c.or-tenses.ensures.future) h k in
-    ap Some (known_since c.args.op i (formula_in o) (formula_in q) _ _ _ c.in-S.is both.0 c.and_past.ensures.past (c.and_past.ensures.future ∙ both.2))
+    (known_since m c.args.op i (formula_in o) (formula_in q) _ _ _ c.in-S.is both.0 c.and_past.ensures.past (c.and_past.ensures.future ∙ both.2))

@@ -9,7 +9,7 @@ use Rattle.c2po_unfold.proofs.Parts.{picked_open, picked_past, other_picked}
 use Rattle.c2po_unfold.proofs.unfolding.Unfolding.+heading.Goals as goal
 
 pub head-returns-in-Build-clause-head : goal.head-returns-in-Build-clause-head
-head-returns-in-Build-clause-head t c = λ env h. (
+head-returns-in-Build-clause-head t c = λ m env h. (
   env,
   h,
   ap (λ s. value_of s env) (shape_of-Build c.args.e.now c.in-Build.name c.in-Build.parts c.in-Build.is)
@@ -18,7 +18,7 @@ head-returns-in-Build-clause-head t c = λ env h. (
 )
 
 pub head-returns-in-Group-clause-head : goal.head-returns-in-Group-clause-head
-head-returns-in-Group-clause-head t c = λ env h. (
+head-returns-in-Group-clause-head t c = λ m env h. (
   env,
   h,
   ap (λ s. value_of s env) (shape_of-Group c.args.e.now c.in-Group.members c.in-Group.is)
@@ -27,23 +27,23 @@ head-returns-in-Group-clause-head t c = λ env h. (
 )
 
 pub part-returns-in-Some-get-clause-head : goal.part-returns-in-Some-get-clause-head
-part-returns-in-Some-get-clause-head t c = λ env v f k.
-    let g = subst (λ h. Heads c.args.self.now h v) c.in-Struct.is k in
-    subst (λ w. IfOk c.head.result (λ h. Heads c.args.self.now h w))
+part-returns-in-Some-get-clause-head t c = λ m env v f k.
+    let g = subst (λ h. Heads m c.args.self.now h v) c.in-Struct.is k in
+    subst (λ w. IfOk c.head.result (λ h. Heads m c.args.self.now h w))
     (picked_open c.in-Struct.parts.now g.0 c.in-Struct.name.now c.in-Some.place c.in-Some-get.part.now (λ y. fields_in (env y)) c.args.field.now v g.2
-    (sym (c.in-Some.ensures env f)) (found_at _ _ _ _ refl c.in-Some-get.ensures.lookup.3.0 c.in-Some-get.ensures.lookup.1))
-    (c.head.ensures.head g.0 g.1)
+    (sym (c.in-Some.ensures m env f)) (found_at _ _ _ _ refl c.in-Some-get.ensures.lookup.3.0 c.in-Some-get.ensures.lookup.1))
+    (c.head.ensures.head m g.0 g.1)
 
 pub part-returns-in-None-clause-head : goal.part-returns-in-None-clause-head
-part-returns-in-None-clause-head t c = λ env v f k.
-    let g = subst (λ h. Heads c.args.self.now h v) c.in-Struct.is k in
-    subst (λ w. Heads c.args.self.now c.args.whole w)
+part-returns-in-None-clause-head t c = λ m env v f k.
+    let g = subst (λ h. Heads m c.args.self.now h v) c.in-Struct.is k in
+    subst (λ w. Heads m c.args.self.now c.args.whole w)
     (picked_past c.in-Struct.parts.now g.0 c.in-Struct.name.now c.in-Some.place (λ y. fields_in (env y)) c.args.field.now v g.2
-    (sym (c.in-Some.ensures env f)) c.in-None.ensures.lookup.3) k
+    (sym (c.in-Some.ensures m env f)) c.in-None.ensures.lookup.3) k
 
 pub part-returns-in-Nothing : goal.part-returns-in-Nothing
 part-returns-in-Nothing t c = record {
-  head = λ env v f k. subst (λ w. Heads c.args.self.now c.args.whole w)
-      (sym (other_picked c.args.self.now c.args.whole v (λ y. fields_in (env y)) c.args.field.now c.in-Nothing.is k)) k;
+  head = λ m env v f k. subst (λ w. Heads m c.args.self.now c.args.whole w)
+      (sym (other_picked m c.args.self.now c.args.whole v (λ y. fields_in (env y)) c.args.field.now c.in-Nothing.is k)) k;
   memory = tt;
 }

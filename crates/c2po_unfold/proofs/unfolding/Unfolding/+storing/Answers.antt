@@ -5,6 +5,7 @@ use Rattle.c2po_unfold.specs.declared.values.Stored.{Stored}
 use Rattle.c2po_unfold.specs.Environment.{value_of}
 use Rattle.c2po_unfold.specs.Values.{boolean}
 use Rattle.c2po_unfold.proofs.Later.{fits_later}
+use Rattle.c2po_unfold.specs.Covering.{exact}
 use Rattle.c2po_unfold.specs.Heads.{Heads}
 use Rattle.c2po_unfold.specs.Holding.{Holds}
 use Rattle.c2po_unfold.specs.Summaries.{IsSummary}
@@ -15,7 +16,7 @@ use Rattle.c2po_unfold.proofs.unfolding.Unfolding.+storing.Goals as goal
 pub store_all-returns-in_err-member-clause-heavy : goal.store_all-returns-in_err-member-clause-heavy
 store_all-returns-in_err-member-clause-heavy t c = λ env h.
     let p = err_from_is_err_and c.from_residual-in_err-member.result c.from_residual-in_err-member.ensures.1 in
-    let fits = fits_later c.args.at.scope.now c.args.self.now c.loop-e.self env c.loop-e.invariant.later h in
+    let fits = fits_later exact c.args.at.scope.now c.args.self.now c.loop-e.self env c.loop-e.invariant.later h in
     rw (p.1, p.2)
     (λ e. omega (
       arith,
@@ -35,16 +36,16 @@ store_all-loop-e-preserved t c =
 
 pub store-returns-in_ok-add_leaf-in-Nothing-clause-holds : goal.store-returns-in_ok-add_leaf-in-Nothing-clause-holds
 store-returns-in_ok-add_leaf-in-Nothing-clause-holds t c = λ env h.
-    let is = subst (λ r. Heads c.args.self.now r (value_of (shape c.args.e.now) env)) c.in-Nothing.is (c.in_ok-head.ensures.head env h) in
+    let is = subst (λ r. Heads exact c.args.self.now r (value_of (shape c.args.e.now) env)) c.in-Nothing.is (c.in_ok-head.ensures.head exact env h) in
     subst (λ v. Holds c.add_leaf.new.self c.in_ok-add_leaf-in-Nothing.field-0 v) (sym is.2)
-    (c.in_ok-add_leaf-in-Nothing.ensures.holds (boolean false) (c.in_ok-token-in-Nothing.ensures.holds (boolean false) refl (c.truth.ensures.truth false)))
+    (c.in_ok-add_leaf-in-Nothing.ensures.holds (boolean false) (c.in_ok-token-in-Nothing.ensures.holds exact (boolean false) refl (c.truth.ensures.truth false)))
 
 pub store-returns-in_ok-add_leaf-in-Leaf-clause-holds : goal.store-returns-in_ok-add_leaf-in-Leaf-clause-holds
 store-returns-in_ok-add_leaf-in-Leaf-clause-holds t c = λ env h.
-    let g = subst (λ r. Heads c.args.self.now r (value_of (shape c.args.e.now) env)) c.in-Leaf.is (c.in_ok-head.ensures.head env h) in
+    let g = subst (λ r. Heads exact c.args.self.now r (value_of (shape c.args.e.now) env)) c.in-Leaf.is (c.in_ok-head.ensures.head exact env h) in
     let e = shape c.in-Leaf.e.now in
     let l = operator_is_leaf e g.0 g.3 in
-    let found = subst (λ v. IsSummary c.in_ok-found-in-Leaf.found v) l.is (c.in_ok-found-in-Leaf.ensures.holds g.0 g.1 g.3) in
+    let found = subst (λ v. IsSummary exact c.in_ok-found-in-Leaf.found v) l.is (c.in_ok-found-in-Leaf.ensures.holds exact g.0 g.1 g.3) in
     subst (λ v. Holds c.add_leaf-in-Leaf.new.self c.in_ok-add_leaf-in-Leaf.field-0 v) (sym (g.2 ∙ l.is))
     (c.in_ok-add_leaf-in-Leaf.ensures.holds l.of found)
 
@@ -52,6 +53,6 @@ pub store-returns-in_err-less-in-Held-clause-heavy : goal.store-returns-in_err-l
 store-returns-in_err-less-in-Held-clause-heavy t c = λ env h.
     let p = err_from_is_err_and c.from_residual-in_err-less-in-Held.result c.from_residual-in_err-less-in-Held.ensures.1 in
     let v = value_of (shape c.args.e.now) env in
-    let held = subst (λ r. Heads c.args.self.now r v) c.in-Held.is (c.in_ok-head.ensures.head env h) in
+    let held = subst (λ r. Heads exact c.args.self.now r v) c.in-Held.is (c.in_ok-head.ensures.head exact env h) in
     rw (p.1, p.2)
     (λ e. omega (arith, c.in_err-less-in-Held.ensures.heavy, holds_weight v c.args.self.now c.in-Held.stored held))

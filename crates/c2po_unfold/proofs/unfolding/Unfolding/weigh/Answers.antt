@@ -1,6 +1,8 @@
 use Rattle.std.proofs.Common.{◌∙◌}
+use Rattle.std.proofs.lemmas.Result.{err_from_is_err_and}
 use Rattle.c2po_ast.specs.Shape.{shape}
 use Rattle.c2po_unfold.proofs.Knowing.{tells_fault, tells_past, tells_future}
+use Rattle.c2po_unfold.specs.Covering.{exact}
 use Rattle.c2po_unfold.specs.Environment.{value_of}
 use Rattle.c2po_unfold.specs.Values.{tree_in}
 use Rattle.c2po_unfold.proofs.unfolding.Unfolding.weigh.Goals as goal
@@ -8,10 +10,15 @@ use Rattle.c2po_unfold.proofs.unfolding.Unfolding.weigh.Goals as goal
 pub returns-clause-weighs : goal.returns-clause-weighs
 returns-clause-weighs c = λ env h.
     let o = tree_in (value_of (shape c.args.e.now) env) in
-    let found = c.in_ok-weight.ensures.holds env h in
+    let found = c.in_ok-weight.ensures.holds exact env h in
     record {
       weight = found.weight;
       fault = c.fault_of.ensures ∙ tells_fault c.in_ok-weight.field-0.fact o found.fact;
       past = c.tenses_of.ensures.past ∙ tells_past c.in_ok-weight.field-0.fact o found.fact;
       future = c.tenses_of.ensures.future ∙ tells_future c.in_ok-weight.field-0.fact o found.fact;
     }
+
+pub returns-in_err-weight-clause-heavy : goal.returns-in_err-weight-clause-heavy
+returns-in_err-weight-clause-heavy c = λ env h.
+    let p = err_from_is_err_and c.from_residual.result c.from_residual.ensures.1 in
+    rw (p.1, p.2) (λ e. c.in_err-weight.ensures.heavy exact env h e)
