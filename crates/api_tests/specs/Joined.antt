@@ -1,23 +1,82 @@
--- What the logs of both programs say, one after the other.
+-- How two runs ended, and what their logs say: c2po compiled a text, and r2u2 ran what was written over a trace.
 
-use Rattle.std.specs.Prelude.{ℕ, Option, List}
+use Rattle.std.specs.Prelude.{◌≡◌, ◌≢◌, ℕ, false, Option, List, Result, Ok, ⊤}
+use Rattle.std.specs.declared.alloc.AllocError.{AllocError}
+use Rattle.tool_io.specs.declared.host.Place.{Place}
 use Rattle.tool_io.specs.declared.host.Place.TheVariants as at
 use Rattle.tool_io.specs.Log.{Event, taken, given}
-use Rattle.tool_words.specs.R2u2Words.{RunAsked}
-use Rattle.mltl_tools.specs.Sentence.{HasCompiled, HasWatched, ReportsText}
+use Rattle.tool_io.specs.MemHost.{Held, faults_of}
+use Rattle.tool_words.specs.declared.file_kind.FileKind.TheVariants as file
+use Rattle.tool_words.specs.declared.status.Status.{Status}
+use Rattle.tool_words.specs.declared.status.Status.TheVariants.{Done}
+use Rattle.tool_words.specs.Causes.{CauseAt}
+use Rattle.tool_words.specs.C2poWords.{CompileAsked, compile}
+use Rattle.tool_words.specs.C2poWords as compiling
+use Rattle.tool_words.specs.R2u2Words.{RunAsked, run}
+use Rattle.tool_words.specs.R2u2Words as watching
+use Rattle.r2u2_monitor.specs.declared.state.State.{State}
+use Rattle.c2po_cli.specs.Asking.{ask}
+use Rattle.c2po_cli.specs.Images.{asked_header}
+use Rattle.c2po_cli.specs.Run.{IsMade}
+use Rattle.r2u2_cli.specs.Run.{IsRun}
+use Rattle.mltl_tools.specs.Sentence.{ReportsText, lines_at}
+use Rattle.api_tests.specs.declared.joined.Ended.{Ended}
+use Rattle.api_tests.specs.declared.joined.Ended.TheVariants.{Unmade, Apart, Together}
 
--- these events are those of a run of c2po that compiled the text which it read, with success
-pub record Compiles (words : List (List ℕ)) (events : List Event) : Type 0 where
-  pub header : Option (List ℕ)
-  pub compiled : HasCompiled words (taken at.Spec events) header (given at.Out events) events
+-- how c2po ended: with success wherever anything follows
+abbrev pub made_as : Result Ended AllocError → Status
+made_as (Ok (Unmade status)) = status
+made_as result = Done
 
--- these events are those of a run of r2u2 over a program file with these bytes, with success
-pub record Watches (words : List (List ℕ)) (bytes : List ℕ) (events : List Event) : Type 0 where
-  pub asked : RunAsked
-  pub watched : HasWatched words asked bytes events
+-- a fact of the end of c2po, where r2u2 didn't run
+abbrev pub IfUnmade : Result Ended AllocError → (Status → Type 0) → Type 0
+IfUnmade (Ok (Unmade status)) P = P status
+IfUnmade result P = ⊤
 
--- the one run compiled a text, and what the other printed reports it
-pub record Reports (made ran : List Event) : Type 0 where
-  pub header : Option (List ℕ)
-  pub asked : RunAsked
-  pub reports : ReportsText (taken at.Spec made) header asked (given at.Out made) ran
+-- a fact of the end of r2u2, where it ran
+abbrev pub IfWatched : Result Ended AllocError → (Status → Type 0) → Type 0
+IfWatched (Ok (Apart status)) P = P status
+IfWatched (Ok (Together status)) P = P status
+IfWatched result P = ⊤
+
+-- a fact where it isn't known that r2u2 read what c2po wrote
+abbrev pub IfApart : Result Ended AllocError → Type 0 → Type 0
+IfApart (Ok (Apart status)) P = P
+IfApart result P = ⊤
+
+-- a fact of the end of r2u2, where it read what c2po wrote
+abbrev pub IfTogether : Result Ended AllocError → (Status → Type 0) → Type 0
+IfTogether (Ok (Together status)) P = P status
+IfTogether result P = ⊤
+
+-- r2u2 ran, unless out of memory
+abbrev pub IsWatched : Result Ended AllocError → Type 0
+IsWatched (Ok (Unmade status)) = ⊥
+IsWatched result = ⊤
+
+-- what c2po_main says of a run over a new host that ended so
+pub record HasMade (words : List (List ℕ)) (status : Status) (before now : Held) : Type 0 where
+  pub cause : (p : Place) → p ≢ at.Err → CauseAt status p (faults_of before p) (faults_of now p)
+  pub made : IsMade (ask words) status (faults_of before) (faults_of now) now.tape.events
+
+-- what r2u2_main says of a run over a new host that ended so
+pub record HasRun (words : List (List ℕ)) (status : Status) (before now : Held) : Type 0 where
+  pub kept : Option State
+  pub cause : (p : Place) → p ≢ at.Err → CauseAt status p (faults_of before p) (faults_of now p)
+  pub ran : IsRun (watching.ask words) status kept (faults_of before) (faults_of now) now.tape.events
+
+-- the one command line requests the program of a specification, and the other one a run over a program file
+pub record Requests (making running : List (List ℕ)) : Type 0 where
+  pub compiled : CompileAsked
+  pub asks : compiling.ask making ≡ compile compiled
+  pub no_table : compiled.table ≡ false
+  pub ran : RunAsked
+  pub asks_run : watching.ask running ≡ run ran
+  pub of_program : ran.kind ≡ file.Program
+
+-- what r2u2 printed reports the text that c2po read, under the header that the command line names, if it names one
+abbrev pub ReportsRequested : {making running : List (List ℕ)} → Requests making running → List Event → List Event
+    → Type 0
+ReportsRequested asked made ran =
+    ReportsText (taken at.Spec made) (asked_header asked.compiled.header (lines_at at.Header made)) asked.ran
+    (given at.Out made) ran

@@ -1,9 +1,9 @@
 //! A host in memory that keeps what is read of a program, so that it can be compared.
 
-ghost use Rattle.std.specs.Prelude.{◌≡◌, [], ◌∷◌, ◌++◌, IsTrue, IfOk};
+ghost use Rattle.std.specs.Prelude.{◌≡◌, ◌≢◌, [], ◌∷◌, ◌++◌, IsTrue, IsFalse, OnOk, Some};
 ghost use Rattle.tool_io.specs.declared.host.Place.TheVariants.{Program as OfProgram};
 ghost use Rattle.tool_io.specs.Log.{Took, taken};
-ghost use Rattle.tool_io.specs.MemFiles.{no_files};
+ghost use Rattle.tool_io.specs.MemFiles.{file_of, no_files};
 ghost use Rattle.tool_io.specs.MemHost.{faults_of, log_of, left_in};
 
 use std::alloc::{AllocError, Global};
@@ -58,29 +58,31 @@ fn both(first: bool, second: bool) -> bool
 }
 
 impl Compared {
-    /// A host that has read nothing yet, with the program in a file of this name.
-    pub fn make(
-        alloc: Global,
-        host: MemHost,
-        name: &str,
-        program: &[u8],
-    ) -> Result<Compared, AllocError>
+    /// A host that has read nothing yet.
+    pub fn make(alloc: Global, host: MemHost) -> Compared
         requires new { host.tape.events ≡ [] }
-        requires unread { host.store.readings ≡ no_files.readings }
-        ensures { IfOk result (λ compared. compared.host.tape.events ≡ []) }
+        ensures { result.host ≡ host }
     {
-        let mut host = host;
-        host.put_file(name, program)?;
-        Ok(Compared {
+        Compared {
             host,
             read: Vec::new(alloc),
             whole: true,
-        })
+        }
+    }
+
+    /// Puts a program into a file of this name.
+    pub fn put_program(&mut self, name: &str, program: &[u8]) -> Result<(), AllocError>
+        requires unread { self.old.host.store.readings ≡ no_files.readings }
+        ensures holds { OnOk result (file_of self.new.host.store name.now ≡ Some program.now) }
+        ensures rest { self.new.host ≡ record self.old.host { store = self.new.host.store } }
+    {
+        self.host.put_file(name, program)
     }
 
     /// Whether all that was read of the program is known, and is these bytes.
     pub fn has_read(&self, program: &[u8]) -> bool
-        ensures { IsTrue result → taken OfProgram self.now.host.tape.events ≡ program.now }
+        ensures whole { IsTrue result → taken OfProgram self.now.host.tape.events ≡ program.now }
+        ensures other { IsFalse result → IsTrue self.now.whole → self.now.read ≢ program.now }
     {
         if !self.whole {
             return false;

@@ -1,80 +1,102 @@
 //! A text that is compiled, and a trace that is watched with the program that came out.
 
-ghost use Rattle.std.specs.Prelude.{◌≡◌, [], IsTrue, IfOk, IfSome};
+ghost use Rattle.std.specs.Prelude.{◌≡◌, ◌≢◌, [], IsTrue};
+ghost use Rattle.tool_io.specs.Log.{given, taken};
 ghost use Rattle.tool_io.specs.MemFiles.{no_files};
-ghost use Rattle.api_tests.specs.Joined.{Compiles, Reports, Watches};
+ghost use Rattle.api_tests.specs.Joined.{HasMade, HasRun, IfApart, IfTogether, IfUnmade, IfWatched, IsWatched, Requests, ReportsRequested, made_as};
 
 use crate::Compared;
 use mltl_tools::{Status, Words, c2po_main, compiled_and_watched, r2u2_main};
 use std::alloc::{AllocError, Global};
-use tool_io::MemHost;
-use tool_words::{C2poAsk, FileKind, R2u2Ask, c2po_ask, r2u2_ask};
+use tool_io::{MemHost, Place};
 
-/// Runs c2po. Returns whether it compiled a text into a program, with success.
-fn compiles(alloc: Global, words: &Words, host: &mut MemHost) -> bool
-    requires { host.old.tape.events ≡ [] }
-    ensures { IsTrue result → Compiles words.now host.new.tape.events }
-{
-    match c2po_ask(alloc, words) {
-        Ok(C2poAsk::Compile(asked)) if !asked.table => {
-            matches!(c2po_main(alloc, words, host), Status::Done)
-        }
-        _ => false,
-    }
+/// How the runs of both programs ended.
+#[derive(Drop)]
+pub enum Ended {
+    /// c2po ended so, and r2u2 didn't run.
+    Unmade(Status),
+    /// c2po ended with success, and r2u2 so; it isn't known that it read of the program what c2po wrote.
+    Apart(Status),
+    /// c2po ended with success, and r2u2 so, which read of the program what c2po wrote.
+    Together(Status),
 }
 
-/// Runs r2u2. Returns whether it ran the program with these bytes over a trace, with success.
-fn watches(alloc: Global, words: &Words, host: &mut Compared, program: &[u8]) -> bool
-    requires { host.old.host.tape.events ≡ [] }
-    ensures { IsTrue result → Watches words.now program.now host.new.host.tape.events }
+/// Runs r2u2 over a new host.
+fn run_over(alloc: Global, watching: &Words, watcher: &mut Compared) -> Status
+    requires { watcher.old.host.tape.events ≡ [] }
+    ensures { HasRun watching.now result watcher.old.host watcher.new.host }
 {
-    match r2u2_ask(alloc, words) {
-        Ok(R2u2Ask::Run(asked)) => match asked.kind {
-            FileKind::Program => {
-                let mut kept = None;
-                match r2u2_main(alloc, words, host, &mut kept) {
-                    Status::Done => host.has_read(program),
-                    _ => false,
-                }
-            }
-            FileKind::Spec => false,
-        },
-        _ => false,
+    let mut kept = None;
+    r2u2_main(alloc, watching, watcher, &mut kept)
+}
+
+/// Runs r2u2 over a host, in which a program is put into a file of this name. Returns how it ended, where there was memory
+/// for the file.
+fn watch_program(
+    alloc: Global,
+    program: &[u8],
+    watching: &Words,
+    watcher: &mut Compared,
+    name: &str,
+) -> Result<Ended, AllocError>
+    requires new { watcher.old.host.tape.events ≡ [] }
+    requires unread { watcher.old.host.store.readings ≡ no_files.readings }
+    ensures watched { IsWatched result }
+    ensures ran { IfWatched result (λ status.
+        HasRun watching.now status watcher.old.host watcher.new.host) }
+    ensures apart { IfApart result
+        (IsTrue watcher.new.whole → watcher.new.read ≢ program.now) }
+    ensures together { IfTogether result (λ status.
+        taken Place.Program watcher.new.host.tape.events ≡ program.now) }
+{
+    watcher.put_program(name, program)?;
+    let status = run_over(alloc, watching, watcher);
+    if watcher.has_read(program) {
+        Ok(Ended::Together(status))
+    } else {
+        Ok(Ended::Apart(status))
     }
 }
 
 /// Compiles a text by the one command line over the one host, and watches a trace with the program that came out by the
-/// other, over the other host, in which the program is put into a file of this name. Returns this host, where the
-/// command lines request such runs and both ended with success: then its output reports the text.
+/// other, over the other host, in which the program is put into a file of this name. Returns how both runs ended; out
+/// of memory for that file is an end only after a compilation with success. Where the command lines request such runs,
+/// both ended with success, and what was read of the program is what was written, the output of r2u2 reports the text.
 pub fn compile_and_watch(
     alloc: Global,
     making: &Words,
     maker: &mut MemHost,
     watching: &Words,
-    watcher: MemHost,
+    watcher: &mut Compared,
     name: &str,
-) -> Result<Option<Compared>, AllocError>
-    requires maker { maker.old.tape.events ≡ [] }
-    requires watcher { watcher.tape.events ≡ [] }
-    requires unread { watcher.store.readings ≡ no_files.readings }
-    ensures { IfOk result (λ ran. IfSome ran (λ host.
-        Reports maker.new.tape.events host.host.tape.events)) }
+) -> Result<Ended, AllocError>
+    requires new { (maker.old.tape.events ≡ []) × (watcher.old.host.tape.events ≡ []) }
+    requires unread { watcher.old.host.store.readings ≡ no_files.readings }
+    ensures made { HasMade making.now (made_as result) maker.old maker.new }
+    ensures unmade { IfUnmade result (λ status. status ≢ Status.Done) }
+    ensures ran { IfWatched result (λ status.
+        HasRun watching.now status watcher.old.host watcher.new.host) }
+    ensures apart { IfApart result (IsTrue watcher.new.whole
+        → watcher.new.read ≢ given Place.Out maker.new.tape.events) }
+    ensures reports { IfTogether result (λ status. status ≡ Status.Done
+        → (asked : Requests making.now watching.now)
+        → ReportsRequested asked maker.new.tape.events watcher.new.host.tape.events) }
 {
-    if !compiles(alloc, making, maker) {
-        return Ok(None);
+    match c2po_main(alloc, making, maker) {
+        Status::Done => {
+            let ended = watch_program(alloc, maker.out(), watching, watcher, name);
+            compiled_and_watched();
+            ended
+        }
+        other => Ok(Ended::Unmade(other)),
     }
-    let mut host = Compared::make(alloc, watcher, name, maker.out())?;
-    if !watches(alloc, watching, &mut host, maker.out()) {
-        return Ok(None);
-    }
-    compiled_and_watched();
-    Ok(Some(host))
 }
 
 #[cfg(test)]
 mod tests {
-    use super::compile_and_watch;
-    use mltl_tools::Words;
+    use super::{Ended, compile_and_watch};
+    use crate::Compared;
+    use mltl_tools::{Status, Words};
     use std::alloc::{AllocError, Global};
     use std::test::Fail;
     use tool_io::MemHost;
@@ -95,17 +117,24 @@ mod tests {
             "grant.c2po",
             b"INPUT r, g: bool; FTSPEC granted: r -> F[0,2] g;",
         )?;
-        let mut watcher = MemHost::make(alloc, 99, 9_999)?;
-        watcher.put_file("grant.csv", b"# g,r\n0,1\n0,0\n0,0\n1,0\n")?;
+        let mut files = MemHost::make(alloc, 99, 9_999)?;
+        files.put_file("grant.csv", b"# g,r\n0,1\n0,0\n0,0\n1,0\n")?;
+        let mut watcher = Compared::make(alloc, files);
         let making = words_of(alloc, "grant.c2po")?;
         let watching = words_of(alloc, "spec.bin grant.csv")?;
-        let ran = compile_and_watch(alloc, &making, &mut maker, &watching, watcher, "spec.bin")?;
-        match ran {
-            Some(host) => {
+        match compile_and_watch(
+            alloc,
+            &making,
+            &mut maker,
+            &watching,
+            &mut watcher,
+            "spec.bin",
+        )? {
+            Ended::Together(Status::Done) => {
                 let wanted = b"granted:0,F\ngranted:1,T\ngranted:2,T\ngranted:3,T\n";
-                assert_eq!(rt; host.host().out(), wanted.as_slice());
+                assert_eq!(rt; watcher.host().out(), wanted.as_slice());
             }
-            None => assert!(rt; false, "a run had another end"),
+            _ => assert!(rt; false, "a run had another end"),
         }
         Ok(())
     }

@@ -4,14 +4,15 @@
 //! They are apart from the crates that they test, since a crate with tests is proved twice.
 //!
 //! [`compile_and_watch`] runs both programs, one after the other, over hosts in memory: `c2po` compiles a text, and `r2u2`
-//! runs what it wrote over a trace. Its contract is what the law `compiled_and_watched` says of the logs of these runs.
+//! runs what it wrote over a trace. Its contract says how each run ended, and then what the law `compiled_and_watched` says
+//! of their logs.
 #![tactic(auto)]
 
 mod compared;
 mod joined;
 
 pub use compared::Compared;
-pub use joined::compile_and_watch;
+pub use joined::{Ended, compile_and_watch};
 
 #[cfg(test)]
 mod compiling;
