@@ -124,6 +124,15 @@ def different_picks(definitions):
     return '%s%sw := {%s};\n%sFTSPEC p;\n' % (DEEP, structs, members(60, 'e#'), users)
 
 
+def turned_picks(definitions):
+    """Chains of picked fields in bodies over pairs of structs, which hold one thing and another in turn."""
+    other = 'c0 := t0(!p);\n' + ''.join('c%d := t%d(c%d);\n' % (k + 1, k + 1, k) for k in range(DEEPEST))
+    structs = ''.join('e%d := t%d(%s%d);\n' % (k, DEEPEST, 'dc'[k % 2], DEEPEST - 1) for k in range(160))
+    chain = '.f' * (DEEPEST + 1)
+    users = ''.join('a%d := foreach(v: w)(foreach(z: w)(z%s));\n' % (k, chain) for k in range(definitions))
+    return '%s%s%sw := {%s};\n%sFTSPEC p;\n' % (DEEP, other, structs, members(160, 'e#'), users)
+
+
 def output_picks():
     """One output, over so many numbers and structs as its weight lets be, whose bodies are chains of picked fields."""
     structs = ''.join('e%d := t%d(d%d);\n' % (k, DEEPEST, DEEPEST - 1) for k in range(160))
@@ -162,7 +171,8 @@ TEXTS = [
     filled('number-picks', 'chains of picked fields in bodies over pairs of numbers', DEEP,
            numbered('DEFINE a#:=foreach(n:s)(foreach(v:u)(n>0||v%s));\n' % ('.f' * (DEEPEST + 1))), 'FTSPEC p;\n'),
     Text('different-picks', 'the same over different structs, 8 definitions in 28 KB', lambda: different_picks(8)),
-    Text('output-picks', 'such a chain in the 32,000 bodies of one output, in 28 KB', output_picks),
+    Text('turned-picks', 'such chains over pairs of structs of two kinds in turn, 4 definitions in 34 KB', lambda: turned_picks(4)),
+    Text('output-picks', 'such a chain in the 32,000 bodies of one output, in 25 KB', output_picks),
     filled('single', 'quantifiers over one member each, within one over pairs', LARGEST + 'DEFINE\n', chained, 'FTSPEC p;\n'),
     Text('nested-picks', '23 quantifiers within one another over picked fields', lambda: picked_within(23)),
     Text('spacecraft', '27 requirements over pairs of 78 spacecraft', lambda: spacecraft(78, 27)),
