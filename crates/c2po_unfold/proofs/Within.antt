@@ -11,7 +11,7 @@ use Rattle.std.proofs.lemmas.Int.{ints, clamps}
 use Rattle.mltl_base.specs.declared.operators.ArithOp as arithmetic_op
 use Rattle.mltl_base.specs.Atoms.{Term, column, constant, negative, plus, minus, times, quotient, remainder}
 use Rattle.mltl_base.specs.Ranges.{Range, divisor, wide, Ranged, range_from, IsIn, least_word, greatest_word, in_word, signal_range, negated, summed, lessened, multiplied, divided, left_over, divides, over, over_both, over_divisor, range, FitsTerm}
-use Rattle.mltl_base.proofs.Ranging.{value_in_range}
+use Rattle.mltl_base.proofs.Ranging.{value_in_range, multiplied_in, divided_in, le_true, divides_ok}
 use Rattle.c2po_unfold.specs.Facts.{range_by}
 use Rattle.c2po_unfold.specs.Covering.{IsWithin, widened, reached}
 
@@ -88,59 +88,6 @@ high g a b p q = omega (arith, ints, clamps)
 least_first : (a b c d : ℤ) → a ≤ℤ c → int_min a b ≤ℤ int_max c d
 least_first a b c d p = omega (arith, ints, clamps)
 
--- a product by a number keeps the order, or turns it
-times_pos : (x h : ℤ) (y : ℕ) → x ≤ℤ h → (x *ℤ pos y) ≤ℤ (h *ℤ pos y)
-times_pos (pos a) (pos b) y p = let e : a ≤ b = omega (arith, ints) in let f : a * y ≤ b * y = mul-le-mul_right y e in omega (arith, ints)
-times_pos (pos a) (negsuc b) y p = absurd (omega (arith, ints))
-times_pos (negsuc a) (pos b) y p = omega (arith, ints)
-times_pos (negsuc a) (negsuc b) y p =
-    let e : suc b ≤ suc a = omega (arith, ints) in
-    let f : suc b * y ≤ suc a * y = mul-le-mul_right y e in
-    omega (arith, ints)
-
-times_turned : (x : ℤ) (y : ℕ) → x *ℤ negsuc y ≡ neg_ℤ (x *ℤ pos (suc y))
-times_turned (pos a) y = refl
-times_turned (negsuc a) y = omega (arith, ints)
-
-neg_turns : (x h : ℤ) → x ≤ℤ h → neg_ℤ h ≤ℤ neg_ℤ x
-neg_turns x h p = omega (arith, ints)
-
-times_neg : (x h : ℤ) (y : ℕ) → x ≤ℤ h → (h *ℤ negsuc y) ≤ℤ (x *ℤ negsuc y)
-times_neg x h y p =
-    let f : (x *ℤ pos (suc y)) ≤ℤ (h *ℤ pos (suc y)) = times_pos x h (suc y) p in
-    rw (times_turned x y, times_turned h y) (neg_turns (x *ℤ pos (suc y)) (h *ℤ pos (suc y)) f)
-
-ends_in : (l h z : ℤ) → l ≤ℤ z → z ≤ℤ h → (int_min l h ≤ℤ z) × (z ≤ℤ int_max l h)
-ends_in l h z p q = (omega (arith, ints, clamps), omega (arith, ints, clamps))
-
-ends_turned : (l h z : ℤ) → h ≤ℤ z → z ≤ℤ l → (int_min l h ≤ℤ z) × (z ≤ℤ int_max l h)
-ends_turned l h z p q = (omega (arith, ints, clamps), omega (arith, ints, clamps))
-
-left_in : (l h x y : ℤ) → l ≤ℤ x → x ≤ℤ h → (int_min (l *ℤ y) (h *ℤ y) ≤ℤ (x *ℤ y)) × ((x *ℤ y) ≤ℤ int_max (l *ℤ y) (h *ℤ y))
-left_in l h x (pos n) p q = ends_in (l *ℤ pos n) (h *ℤ pos n) (x *ℤ pos n) (times_pos l x n p) (times_pos x h n q)
-left_in l h x (negsuc n) p q = ends_turned (l *ℤ negsuc n) (h *ℤ negsuc n) (x *ℤ negsuc n) (times_neg x h n q) (times_neg l x n p)
-
-right_in : (l h x y : ℤ) → l ≤ℤ x → x ≤ℤ h → (int_min (y *ℤ l) (y *ℤ h) ≤ℤ (y *ℤ x)) × ((y *ℤ x) ≤ℤ int_max (y *ℤ l) (y *ℤ h))
-right_in l h x y p q = rw (*ℤ_comm y l, *ℤ_comm y h, *ℤ_comm y x) (left_in l h x y p q)
-
-least_of : (a c u v z : ℤ) → a ≤ℤ u → c ≤ℤ v → int_min u v ≤ℤ z → int_min a c ≤ℤ z
-least_of a c u v z p q r = omega (arith, ints, clamps)
-
-greatest_of : (a c u v z : ℤ) → u ≤ℤ a → v ≤ℤ c → z ≤ℤ int_max u v → z ≤ℤ int_max a c
-greatest_of a c u v z p q r = omega (arith, ints, clamps)
-
--- within the two values of each end, so within the four
-four_in : (a b c d u v z : ℤ) → int_min a b ≤ℤ u → u ≤ℤ int_max a b → int_min c d ≤ℤ v → v ≤ℤ int_max c d → int_min u v ≤ℤ z → z ≤ℤ int_max u v →
-    (int_min (int_min a b) (int_min c d) ≤ℤ z) × (z ≤ℤ int_max (int_max a b) (int_max c d))
-four_in a b c d u v z p q r s t w = (least_of (int_min a b) (int_min c d) u v z p r t, greatest_of (int_max a b) (int_max c d) u v z q s w)
-
-multiplied_in : (r s : Range) (x y : ℤ) → IsIn r x → IsIn s y → IsIn (multiplied r s) (x *ℤ y)
-multiplied_in r s x y h k =
-    let f = left_in r.least r.greatest x y h.0 h.1 in
-    let g = right_in s.least s.greatest y r.least k.0 k.1 in
-    let m = right_in s.least s.greatest y r.greatest k.0 k.1 in
-    four_in (r.least *ℤ s.least) (r.least *ℤ s.greatest) (r.greatest *ℤ s.least) (r.greatest *ℤ s.greatest) (r.least *ℤ y) (r.greatest *ℤ y) (x *ℤ y) g.0 g.1 m.0 m.1 f.0 f.1
-
 multiplied_within : (q r t s : Range) → IsWithin q r → IsWithin t s → IsWithin (multiplied q t) (multiplied r s)
 multiplied_within q r t s h k =
     let x = ends_within q r h in
@@ -160,28 +107,6 @@ multiplied_within q r t s h k =
       upward = least_first (int_min aa bb) (int_min dd' dd) (int_max aa bb) (int_max dd' dd) (least_first aa bb aa bb (omega (arith, ints)));
       greatest = high g (int_max aa bb) (int_max dd' dd) (high g aa bb a.1 b.1) (high g dd' dd c.1 d.1);
     }
-
--- so does a quotient
-div_grows : (a b c : ℕ) → a ≤ b → a / suc c ≤ b / suc c
-div_grows a b c l = le-div (a / suc c) b (suc c) (omega arith) (le_trans (div-mul-le_self a (suc c)) l)
-
-over_pos : (x h : ℤ) (c : ℕ) → x ≤ℤ h → int_div x (pos (suc c)) ≤ℤ int_div h (pos (suc c))
-over_pos (pos a) (pos b) c p = let e : a ≤ b = omega (arith, ints) in let f = div_grows a b c e in omega (arith, ints)
-over_pos (pos a) (negsuc b) c p = absurd (omega (arith, ints))
-over_pos (negsuc a) (pos b) c p = omega (arith, ints)
-over_pos (negsuc a) (negsuc b) c p = let e : suc b ≤ suc a = omega (arith, ints) in let f = div_grows (suc b) (suc a) c e in omega (arith, ints)
-
-over_turned : (x : ℤ) (c : ℕ) → int_div x (negsuc c) ≡ neg_ℤ (int_div x (pos (suc c)))
-over_turned (pos a) c = refl
-over_turned (negsuc a) c = omega (arith, ints)
-
-over_neg : (x h : ℤ) (c : ℕ) → x ≤ℤ h → int_div h (negsuc c) ≤ℤ int_div x (negsuc c)
-over_neg x h c p = rw (over_turned x c, over_turned h c) (neg_turns (int_div x (pos (suc c))) (int_div h (pos (suc c))) (over_pos x h c p))
-
-divided_in : (r : Range) (x c : ℤ) → IsIn r x → (c ≡ pos 0 → ⊥) → IsIn (divided r c) (int_div x c)
-divided_in r x (pos zero) h n = absurd (n refl)
-divided_in r x (pos (suc c)) h n = ends_in (int_div r.least (pos (suc c))) (int_div r.greatest (pos (suc c))) (int_div x (pos (suc c))) (over_pos r.least x c h.0) (over_pos x r.greatest c h.1)
-divided_in r x (negsuc c) h n = ends_turned (int_div r.least (negsuc c)) (int_div r.greatest (negsuc c)) (int_div x (negsuc c)) (over_neg x r.greatest c h.1) (over_neg r.least x c h.0)
 
 divided_within : (q r : Range) (c : ℤ) → IsWithin q r → (c ≡ pos 0 → ⊥) → IsWithin (divided q c) (divided r c)
 divided_within q r c h n =
@@ -216,9 +141,6 @@ Spans true (Err why) x = Unit {0}
 Spans false (Ok r) x = (q : Range) × (x ≡ Ok q) × IsWithin q r
 Spans false (Err why) x = Unit {0}
 
-le_true : (a b : ℤ) → int_le a b ≡ true → a ≤ℤ b
-le_true a b e = le_z_yes (subst T (sym e) tt)
-
 le_yes : (a b : ℤ) → a ≤ℤ b → int_le a b ≡ true
 le_yes a b h = grind (arith, ints)
 
@@ -251,13 +173,6 @@ both_spans f (Ok r) (Err why) x y grows h k = tt
 both_spans f (Err why) t x y grows h k = tt
 
 -- a divisor that is one number is the only one within it
-divides_parts : (t : Range) → divides t ≡ true → (t.least ≡ t.greatest) × (t.least ≡ pos 0 → ⊥)
-divides_parts t e =
-    let p = and_parts (int_eq t.least t.greatest) (not (int_eq t.least (pos 0))) e in (
-      (Decides-int_eq t.least t.greatest).0 p.0,
-      λ z. both_ways (int_eq t.least (pos 0)) (not-true (int_eq t.least (pos 0)) p.1) ((Decides-int_eq t.least (pos 0)).1 z),
-    )
-
 one_within : (p o : Range) → o.least ≡ o.greatest → IsWithin p o → p ≡ o
 one_within p o e h =
     let l = h.least in
@@ -273,13 +188,13 @@ divisor_spans f (Ok r) (Ok o) x y grows h k = go (divides o) refl
   where
     go : (b : Bool) → divides o ≡ b → Spans false (if b then in_word (f r o.least) else Err divisor) (over_divisor f x y)
     go true e =
-        let d = divides_parts o e in
-        let same : k.0 ≡ o = one_within k.0 o d.0 k.2 in
+        let d = divides_ok o e in
+        let same : k.0 ≡ o = one_within k.0 o d.one k.2 in
         let right : y ≡ Ok o = k.1 ∙ ap (λ (p : Range). Ok p) same in
         subst (λ z. Spans false (in_word (f r o.least)) (over_divisor f z y)) (sym h.1)
         (subst (λ z. Spans false (in_word (f r o.least)) (over_divisor f (Ok h.0) z)) (sym right)
         (subst (λ b. Spans false (in_word (f r o.least)) (if b then in_word (f h.0 o.least) else Err divisor)) (sym e)
-        (word_within (f h.0 o.least) (f r o.least) (grows h.0 r o.least h.2 d.1))))
+        (word_within (f h.0 o.least) (f r o.least) (grows h.0 r o.least h.2 d.some))))
     go false e = tt
 divisor_spans f (Ok r) (Err why) x y grows h k = tt
 divisor_spans f (Err why) t x y grows h k = tt
@@ -291,8 +206,8 @@ rest_spans (Ok r) (Ok o) x y h k = go (divides o) refl
   where
     go : (b : Bool) → divides o ≡ b → Spans false (if b then in_word (left_over signal_range o.least) else Err divisor) (over_divisor left_over x y)
     go true e =
-        let d = divides_parts o e in
-        let same : k.0 ≡ o = one_within k.0 o d.0 k.2 in
+        let d = divides_ok o e in
+        let same : k.0 ≡ o = one_within k.0 o d.one k.2 in
         let right : y ≡ Ok o = k.1 ∙ ap (λ (p : Range). Ok p) same in
         subst (λ z. Spans false (in_word (left_over signal_range o.least)) (over_divisor left_over z y)) (sym h.1)
         (subst (λ z. Spans false (in_word (left_over signal_range o.least)) (over_divisor left_over (Ok h.0) z)) (sym right)

@@ -70,7 +70,7 @@ four_in : (a b c d u v z : ℤ) → int_min a b ≤ℤ u → u ≤ℤ int_max a 
     (int_min (int_min a b) (int_min c d) ≤ℤ z) × (z ≤ℤ int_max (int_max a b) (int_max c d))
 four_in a b c d u v z p q r s t w = (least_of (int_min a b) (int_min c d) u v z p r t, greatest_of (int_max a b) (int_max c d) u v z q s w)
 
-multiplied_in : (r s : Range) (x y : ℤ) → IsIn r x → IsIn s y → IsIn (multiplied r s) (x *ℤ y)
+pub multiplied_in : (r s : Range) (x y : ℤ) → IsIn r x → IsIn s y → IsIn (multiplied r s) (x *ℤ y)
 multiplied_in r s x y h k =
     let f = left_in r.least r.greatest x y h.0 h.1 in
     let g = right_in s.least s.greatest y r.least k.0 k.1 in
@@ -94,7 +94,7 @@ over_turned (negsuc a) c = omega (arith, ints)
 over_neg : (x h : ℤ) (c : ℕ) → x ≤ℤ h → int_div h (negsuc c) ≤ℤ int_div x (negsuc c)
 over_neg x h c p = rw (over_turned x c, over_turned h c) (neg_turns (int_div x (pos (suc c))) (int_div h (pos (suc c))) (over_pos x h c p))
 
-divided_in : (r : Range) (x c : ℤ) → IsIn r x → (c ≡ pos 0 → ⊥) → IsIn (divided r c) (int_div x c)
+pub divided_in : (r : Range) (x c : ℤ) → IsIn r x → (c ≡ pos 0 → ⊥) → IsIn (divided r c) (int_div x c)
 divided_in r x (pos zero) h n = absurd (n refl)
 divided_in r x (pos (suc c)) h n = ends_in (int_div r.least (pos (suc c))) (int_div r.greatest (pos (suc c))) (int_div x (pos (suc c))) (over_pos r.least x c h.0) (over_pos x r.greatest c h.1)
 divided_in r x (negsuc c) h n = ends_turned (int_div r.least (negsuc c)) (int_div r.greatest (negsuc c)) (int_div x (negsuc c)) (over_neg x r.greatest c h.1) (over_neg r.least x c h.0)
@@ -105,7 +105,7 @@ abs_some (pos zero) n = absurd (n refl)
 abs_some (pos (suc c)) n = omega arith
 abs_some (negsuc c) n = omega arith
 
-le_true : (a b : ℤ) → int_le a b ≡ true → a ≤ℤ b
+pub le_true : (a b : ℤ) → int_le a b ≡ true → a ≤ℤ b
 le_true a b e = le_z_yes (subst T (sym e) tt)
 
 left_pos : (x : ℤ) (c : ℤ) → 0 < unsigned_abs c → pos 0 ≤ℤ x → (pos 0 ≤ℤ int_rem x c) × (int_rem x c ≤ℤ pos (unsigned_abs c - 1))
@@ -157,7 +157,7 @@ pub record IsDivisor (t : Range) : Type 0 where
   pub one : t.least ≡ t.greatest
   pub some : t.least ≡ pos 0 → ⊥
 
-divides_ok : (t : Range) → divides t ≡ true → IsDivisor t
+pub divides_ok : (t : Range) → divides t ≡ true → IsDivisor t
 divides_ok t e =
     let p = and_parts (int_eq t.least t.greatest) (not (int_eq t.least (pos 0))) e in
     record {
