@@ -1,5 +1,5 @@
 -- What a write to the operator's own queue adds to what it has decided so far.
-use Rattle.std.proofs.Common.{◌≡◌, ℕ, ◌+◌, ◌-◌, ◌<◌, ◌≤◌, max, Bool, List, length, arith, refl, subst, sym, ap, ◌∙◌, inl, inr, Option, Some}
+use Rattle.std.proofs.Common.{◌≡◌, ℕ, ◌<◌, ◌≤◌, Bool, List, length, arith, refl, subst, sym, ap, ◌∙◌, inl, inr, Option, Some}
 use Rattle.std.specs.Option.{IsSome}
 use Rattle.std.proofs.lemmas.Bool.{cases_lt}
 use Rattle.mltl_base.specs.Verdicts.{Known}

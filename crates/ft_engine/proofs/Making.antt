@@ -1,7 +1,7 @@
 -- Queues that are new.
 use Rattle.std.proofs.Common.{◌≡◌, ℕ, ◌+◌, ◌<◌, Bool, List, [], ◌∷◌, ◌++◌, subst, length, get_or, sum, arith, ap, sym, ◌∙◌}
 use Rattle.mltl_base.specs.declared.operators.FtOp.{FtOp}
-use Rattle.mltl_base.specs.declared.operators.FtOp.TheVariants.{True, Load, Not, And, Until}
+use Rattle.mltl_base.specs.declared.operators.FtOp.TheVariants.{True, Load, Until}
 use Rattle.mltl_base.specs.declared.program.Program.{Program}
 use Rattle.mltl_base.specs.Programs.{atoms}
 use Rattle.obs_verify.specs.Running.{RunsFuture}

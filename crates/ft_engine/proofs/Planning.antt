@@ -3,7 +3,7 @@ use Rattle.std.proofs.Common.{◌≡◌, ℕ, ◌<◌, ◌≤◌, List, [], ◌�
 use Rattle.std.proofs.lemmas.List.{get_or_append_left, get_or-map, length-map}
 use Rattle.std.proofs.lemmas.List.FromFn.{get_or-map-range_with_len}
 use Rattle.mltl_base.specs.declared.operators.FtOp.{FtOp}
-use Rattle.mltl_base.specs.declared.operators.FtOp.TheVariants.{True, Load, Not, And, Until}
+use Rattle.mltl_base.specs.declared.operators.FtOp.TheVariants.{True, Not, And, Until}
 use Rattle.mltl_base.specs.declared.program.Out.{Out}
 use Rattle.mltl_base.specs.Queues.{AreInOrder, HasBounds, IsAfterOperands, best_of, worst_of, best_delays, worst_delays, operands, reported, readers, queue_length, queue_lengths, widest as widest_of}
 use Rattle.delay_sizes.proofs.DelayLaws.{best_at, worst_at, best_below}

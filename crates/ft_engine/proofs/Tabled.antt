@@ -6,7 +6,7 @@ use Rattle.std.proofs.lemmas.Bool.Decides.{nat_tests}
 use Rattle.std.proofs.lemmas.List.{length-map, get_or_append_left, get_or_push, nil_from_length}
 use Rattle.std.proofs.lemmas.Option.{slice_get-map, slice_get-get_or, slice_get_within}
 use Rattle.mltl_base.specs.declared.operators.FtOp.{FtOp}
-use Rattle.mltl_base.specs.declared.operators.FtOp.TheVariants.{True, Load, Not, And, Until}
+use Rattle.mltl_base.specs.declared.operators.FtOp.TheVariants.{True, Load}
 use Rattle.mltl_base.specs.Atoms.{Row, Atom, holds, is_true}
 use Rattle.mltl_base.specs.Formula.{Core, Formula, plain}
 use Rattle.mltl_base.specs.Programs.{core_at, op_formula, formulas}

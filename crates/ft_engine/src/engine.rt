@@ -1,7 +1,5 @@
 //! The future-time engine of a checked program.
 
-ghost use Rattle.std.specs.Prelude.{◌≡◌};
-ghost use Rattle.obs_verify.specs.Running.{RunsFuture};
 ghost use Rattle.ft_engine.specs.Queues.{QueuesAreSound};
 ghost use Rattle.ft_engine.specs.Sound.{AreSound-prop};
 
@@ -10,8 +8,8 @@ use crate::restart::restart;
 use crate::rows::row_of;
 use booleanizer::Bz;
 use fixed_list::Fixed;
+use mltl_base::Seat;
 use mltl_base::steps::Steps;
-use mltl_base::{Program, Seat};
 use obs_verify::Checked;
 use scq_ring::{Ring, Seen, Slot};
 use std::alloc::{AllocError, Global};
@@ -27,18 +25,18 @@ pub struct Ft {
 }
 
 impl Ft {
-    ghost use Rattle.std.specs.Prelude.{ℕ, ◌+◌, ◌^◌, ◌<◌, ◌≤◌, List, [], ◌∷◌, ◌++◌, length, IfOk, MatchOption};
+    ghost use Rattle.std.specs.Prelude.{◌≡◌, ℕ, ◌+◌, ◌^◌, ◌<◌, ◌≤◌, List, [], ◌∷◌, ◌++◌, length, IfOk, MatchOption};
     ghost use Rattle.mltl_base.specs.declared.limits.TheConstants.{MAX_MISSION};
     ghost use Rattle.mltl_base.specs.Atoms.{Row};
     ghost use Rattle.booleanizer.specs.Evaluation.{numbers_on};
     ghost use Rattle.ft_engine.specs.Running.{row_work};
     ghost use Rattle.ft_engine.specs.Standing.{ShowsFrom, FtHasTaken, frontier_at, instruction_count, kept_verdict, lowest_at};
 
-    /// The engine of a program, before the first row. It takes all its memory at once.
+    /// The engine of a program, before the first row. Allocates all its memory.
     pub fn make(alloc: Global, checked: &Checked) -> Result<Ft, AllocError>
         ensures stands { IfOk result (FtHasTaken checked.now []) }
     {
-        let program = program_of(checked);
+        let program = checked.program();
         let ops = program.ft.as_slice();
         let sizes = program.sizes.ft.as_slice();
         let mut queues = Vec::with_capacity(alloc, ops.len())?;
@@ -57,12 +55,12 @@ impl Ft {
         Ok(Ft { queues, slab })
     }
 
-    /// Stands for no rows again, in the memory that it has.
+    /// Resets the engine to its state before the first row. It neither allocates nor frees.
     pub fn reset(&mut self, checked: &Checked)
         requires stands { (rows : List Row) × FtHasTaken checked.now rows self.old }
         ensures stands { FtHasTaken checked.now [] self.new }
     {
-        let program = program_of(checked);
+        let program = checked.program();
         restart(program.ft.as_slice(), self.queues.as_mut_slice());
     }
 
@@ -76,7 +74,7 @@ impl Ft {
             → FtHasTaken checked.now (rows ++ row ∷ []) self.new }
         ensures counted { steps.new ≤ steps.old + row_work checked.now }
     {
-        let program = program_of(checked);
+        let program = checked.program();
         row_of(
             program.ft.as_slice(),
             bz,
@@ -140,13 +138,4 @@ impl Ft {
         let queue = operand(self.queues.as_slice(), self.slab.as_slice(), i);
         queue.ring.read(queue.slots, from, &mut steps)
     }
-}
-
-/// The program of a checked one, which the engine can run.
-#[tactic(auto, using(obs_verify::proofs::RunLaws::runs_future))]
-fn program_of(checked: &Checked) -> &Program
-    ensures program { result.now ≡ checked.now }
-    ensures runs { RunsFuture checked.now }
-{
-    checked.program()
 }

@@ -4,6 +4,7 @@ use Rattle.std.proofs.lemmas.List.{length-replicate, take_all}
 use Rattle.mltl_base.specs.declared.operators.FtOp.{FtOp}
 use Rattle.mltl_base.specs.declared.program.Program.{Program}
 use Rattle.mltl_base.proofs.Seats.{none_seated}
+use Rattle.obs_verify.proofs.RunLaws.{runs_future}
 use Rattle.scq_ring.specs.declared.Slot.{Slot}
 use Rattle.ft_engine.specs.declared.queue.Queue.{Queue}
 use Rattle.ft_engine.specs.Queues.{no_queue}
@@ -41,16 +42,24 @@ loop-i-preserved c =
 pub bounds-sizes-i : goal.bounds-sizes-i
 bounds-sizes-i c =
     let program : Program = c.args.checked.now in
-    let same = c.program_of-program.ensures.program in
+    let runs = runs_future program c.program-program.ensures.layout c.program-program.ensures.well_formed in
+    let same = c.program-program.ensures.program in
     let ops : c.as_slice-ops.result.now ≡ program.ft = c.as_slice-ops.ensures ∙ ap (λ (p : Program). p.ft) same in
     let sizes : c.as_slice-sizes.result.now ≡ program.sizes.ft = c.as_slice-sizes.ensures ∙ ap (λ (p : Program). p.sizes.ft) same in
-    omega (arith, sizes_count program c.program_of-program.ensures.runs, ap (λ (xs : List FtOp). length xs) ops, ap (λ (ns : List ℕ). length ns) sizes)
+    omega (arith, sizes_count program runs, ap (λ (xs : List FtOp). length xs) ops, ap (λ (ns : List ℕ). length ns) sizes)
+
+pub overflow_add-start : goal.overflow_add-start
+overflow_add-start c =
+    let program : Program = c.args.checked.now in
+    let runs = runs_future program c.program-program.ensures.layout c.program-program.ensures.well_formed in
+    let sizes : c.as_slice-sizes.result.now ≡ program.sizes.ft = c.as_slice-sizes.ensures ∙ ap (λ (p : Program). p.sizes.ft) c.program-program.ensures.program in
+    grind (arith, common_steps, runs.few, sizes, c.loop-i.invariant.total)
 
 pub invariant_of-result : goal.invariant_of-result
 invariant_of-result c =
     let program : Program = c.args.checked.now in
-    let runs = c.program_of-program.ensures.runs in
-    let same = c.program_of-program.ensures.program in
+    let runs = runs_future program c.program-program.ensures.layout c.program-program.ensures.well_formed in
+    let same = c.program-program.ensures.program in
     let ops : c.as_slice-ops.result.now ≡ program.ft = c.as_slice-ops.ensures ∙ ap (λ (p : Program). p.ft) same in
     let sizes : c.as_slice-sizes.result.now ≡ program.sizes.ft = c.as_slice-sizes.ensures ∙ ap (λ (p : Program). p.sizes.ft) same in
     let ok = c.loop-i.queues.ok.0 in
@@ -65,8 +74,8 @@ invariant_of-result c =
 pub returns : goal.returns
 returns c =
     let program : Program = c.args.checked.now in
-    let runs = c.program_of-program.ensures.runs in
-    let same = c.program_of-program.ensures.program in
+    let runs = runs_future program c.program-program.ensures.layout c.program-program.ensures.well_formed in
+    let same = c.program-program.ensures.program in
     let ops : c.as_slice-ops.result.now ≡ program.ft = c.as_slice-ops.ensures ∙ ap (λ (p : Program). p.ft) same in
     let sizes : c.as_slice-sizes.result.now ≡ program.sizes.ft = c.as_slice-sizes.ensures ∙ ap (λ (p : Program). p.sizes.ft) same in
     let ok = c.loop-i.queues.ok.0 in
