@@ -2,7 +2,7 @@
 use Rattle.std.proofs.Common.{◌≡◌, ℕ, ◌+◌, ◌<◌, List, [], ◌∷◌, ◌++◌, subst, length, get_or, sum, arith, ap, sym, ◌∙◌, refl}
 use Rattle.std.proofs.lemmas.List.{get_or-map}
 use Rattle.mltl_base.specs.declared.operators.PtOp.{PtOp}
-use Rattle.mltl_base.specs.declared.operators.PtOp.TheVariants.{True, Load, Not, And, Since}
+use Rattle.mltl_base.specs.declared.operators.PtOp.TheVariants.{True, Since}
 use Rattle.mltl_base.specs.declared.program.Program.{Program}
 use Rattle.mltl_base.specs.Kleene.{some_below}
 use Rattle.mltl_base.specs.Queues.{boxes_of}
@@ -46,19 +46,13 @@ started_more sizes nodes start i new count s fresh begins = record {
 
 -- no boxes are apart, belong to any spans, and tell what no rows tell
 pub first_apart : (op : PtOp) (boxes : List Span) → boxes ≡ [] → HasBoxes op 0 boxes
-first_apart True boxes e = tt
-first_apart (Load k) boxes e = tt
-first_apart (Not g) boxes e = tt
-first_apart (And l r) boxes e = tt
 first_apart (Since l r window) boxes e = subst (λ (xs : List Span). SpansLieApart window 0 0 xs) (sym e) (none_apart window 0)
+first_apart _ boxes e = tt
 
 pub first_told : (op : PtOp) (table : TruthTable) (boxes : List Span) → boxes ≡ [] → BoxesRepresent op table 0 boxes
 unfolding some_below
-first_told True table boxes e = tt
-first_told (Load k) table boxes e = tt
-first_told (Not g) table boxes e = tt
-first_told (And l r) table boxes e = tt
 first_told (Since l r window) table boxes e = subst (λ (xs : List Span). BoxesRepresent (Since l r window) table 0 xs) (sym e) (record { each = λ u h. refl })
+first_told _ table boxes e = tt
 
 pub first_belongs : (boxes : Boxes) (spans : List Span) → boxes ≡ no_boxes → SpansOf boxes spans
 first_belongs boxes spans e = subst (λ (b : Boxes). SpansOf b spans) (sym e) (record { oldest_in = λ h. h; used_in = omega arith })

@@ -30,10 +30,7 @@ sat_of : (rows : List Row) (loaded : List Atom) (all : List Core) (op : PtOp) (t
     → sat rows (plain (past_formula_of loaded all op)) t ≡ op_truth op (λ k t. holds (get_or loaded k (is_true 0)) (get_or rows t [])) (λ i t. sat rows (plain (core_at all i)) t) t
 unfolding plain sat
 sat_of rows loaded all True t = refl
-sat_of rows loaded all (Load k) t = refl
-sat_of rows loaded all (Not g) t = refl
-sat_of rows loaded all (And l r) t = refl
-sat_of rows loaded all (Since l r window) t = refl
+sat_of rows loaded all _ t = refl
 
 -- the meanings are a table
 meaning_at : (program : Program) (rows : List Row) → ArePastInOrder program.pt → (i t : ℕ) → i < length program.pt
@@ -71,13 +68,10 @@ meaning_stays program rows more order i t h t_in = stays_below program rows more
 
 -- boxes that tell one table tell another one which is the same so far
 told_same : (k : ℕ) (op : PtOp) (table table' : TruthTable) (n : ℕ) (boxes : List Span) → IsAfterPastOperands k op → ((g t : ℕ) → g < k → t < n → table' g t ≡ table g t) → BoxesRepresent op table n boxes → BoxesRepresent op table' n boxes
-told_same k True table table' n boxes after same t = tt
-told_same k (Load a) table table' n boxes after same t = tt
-told_same k (Not g) table table' n boxes after same t = tt
-told_same k (And l r) table table' n boxes after same t = tt
 told_same k (Since l r window) table table' n boxes after same t = record {
   each = λ u h. t.each u h ∙ since_after_same window (table l) (table' l) (table r) (table' r) n u (λ s s_in. sym (same l s after.0 s_in)) (λ s s_in. sym (same r s after.1 s_in));
 }
+told_same k _ table table' n boxes after same t = tt
 
 pub has_same : (ops : List PtOp) (table table' : TruthTable) (n : ℕ) (nodes : List Node) (slab : List Span) → ArePastInOrder ops → ((g t : ℕ) → g < length ops → t < n → table' g t ≡ table g t)
     → HasTable ops table n nodes slab → HasTable ops table' n nodes slab

@@ -2,7 +2,7 @@
 use Rattle.std.proofs.Common.{◌≡◌, ℕ, List, length, sum, arith, refl, subst, sym, ◌∙◌}
 use Rattle.mltl_base.specs.declared.interval.Interval.{Interval}
 use Rattle.mltl_base.specs.declared.operators.PtOp.{PtOp}
-use Rattle.mltl_base.specs.declared.operators.PtOp.TheVariants.{True, Load, Not, And, Since}
+use Rattle.mltl_base.specs.declared.operators.PtOp.TheVariants.{Since}
 use Rattle.mltl_base.specs.declared.program.Program.{Program}
 use Rattle.mltl_base.specs.Atoms.{Row}
 use Rattle.mltl_base.specs.Seats.{part}
@@ -40,11 +40,8 @@ stands_with program rows pt kept taken has total =
 
 -- what a Since's boxes tell, those of any instruction tell
 told_of : (op : PtOp) (table : TruthTable) (n : ℕ) (boxes : List Span) → ((l r : ℕ) (window : Interval) → op ≡ Since l r window → SpanSince window (table l) (table r) n boxes) → BoxesRepresent op table n boxes
-told_of True table n boxes h = tt
-told_of (Load k) table n boxes h = tt
-told_of (Not g) table n boxes h = tt
-told_of (And l r) table n boxes h = tt
 told_of (Since l r window) table n boxes h = h l r window refl
+told_of _ table n boxes h = tt
 
 pub table_of : (program : Program) (rows : List Row) (pt : Pt) → PtHasTaken program rows pt → HasTable program.pt (formula_meaning program rows) (length rows) pt.nodes pt.slab
 unfolding boxes_at now_at

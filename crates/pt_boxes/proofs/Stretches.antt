@@ -26,12 +26,6 @@ prolonged-append last [] s = refl
 prolonged-append last (t ∷ []) s = refl
 prolonged-append last (t ∷ t' ∷ ts) s = ap (λ (xs : List Span). t ∷ xs) (prolonged-append last (t' ∷ ts) s)
 
-pub length-prolonged : (last : ℕ) (boxes : List Span) → length (prolonged last boxes) ≡ length boxes
-unfolding prolonged
-length-prolonged last [] = refl
-length-prolonged last (s ∷ []) = refl
-length-prolonged last (s ∷ s' ∷ ss) = omega (arith, length-prolonged last (s' ∷ ss))
-
 -- a first box that ended, and one that did not
 pub without_ended-past : (now : ℕ) (s : Span) (ss : List Span) → s.last < now → without_ended now (s ∷ ss) ≡ ss
 unfolding without_ended

@@ -45,11 +45,7 @@ module _ (nodes : List Node) (slab : List Span) (i : ℕ) (new : Node) (own : Li
 module _ (ops : List PtOp) (n : ℕ) (nodes : List Node) (slab : List Span) (before rest : List Node) (low high : List Span) (node : Node)
     (nodes_are : nodes ≡ before ++ rest) (slab_is : slab ≡ low ++ high) (some : 0 < length rest) (node_is : node ≡ node_at nodes (length before)) (low_is : length low ≡ node.seat.start)
     (turned : Turned ops n nodes slab (length before)) where
-  -- what the instruction meets
-  pub ready_here : KeepsRoom (op_at ops (length before)) n node.boxes (take node.seat.size high)
-  ready_here = here_kept before rest low high node turned.laid nodes_are slab_is some node_is low_is (λ m xs. KeepsRoom (op_at ops (length before)) n m.boxes xs) (turned.todo (length before) (omega arith) (omega (arith, sizes_are before rest low high node turned.laid nodes_are slab_is some node_is low_is)))
-
-  -- and what it is told
+  -- what the instruction is told
   pub turn_here : (numbers : List ℤ) (loaded table : TruthTable) → length before < length ops → IsTruthTable ops loaded (n + 1) table → LoadsMatchTable ops numbers loaded n → Retold ops table n nodes slab (length before)
       → IsTurn (op_at ops (length before)) numbers loaded table n before (kept node.boxes (take node.seat.size high))
   turn_here numbers loaded table in_ops is_table agree retold = record {
@@ -65,9 +61,6 @@ turned_from ops n nodes slab k = record { same_length = k.same_length; laid = k.
 
 pub retold_from : (ops : List PtOp) (table : TruthTable) (n : ℕ) (nodes : List Node) (slab : List Span) → length nodes ≡ length ops → HasTable ops table n nodes slab → Retold ops table n nodes slab 0
 retold_from ops table n nodes slab same has = record { done = λ j h. absurd (omega arith); truths = λ j h. absurd (omega arith); todo = λ j from h. has.told j (omega arith) }
-
-pub turned_to : (ops : List PtOp) (n : ℕ) (nodes : List Node) (slab : List Span) → Turned ops n nodes slab (length ops) → AreKept ops (n + 1) nodes slab
-turned_to ops n nodes slab t = record { same_length = t.same_length; laid = t.laid; kept = λ i h. t.done i (omega (arith, t.same_length)) }
 
 pub retold_to : (ops : List PtOp) (table : TruthTable) (n : ℕ) (nodes : List Node) (slab : List Span) → Retold ops table n nodes slab (length ops) → HasTable ops table (n + 1) nodes slab
 retold_to ops table n nodes slab t = record {

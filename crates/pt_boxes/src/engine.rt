@@ -1,15 +1,12 @@
 //! The past-time engine of a checked program.
 
-ghost use Rattle.std.specs.Prelude.{◌≡◌};
-ghost use Rattle.obs_verify.specs.Running.{RunsPast};
-
 use crate::boxes::{Boxes, Span};
 use crate::restart::restart;
 use crate::rows::{Node, row_of};
 use booleanizer::Bz;
 use fixed_list::Fixed;
+use mltl_base::Seat;
 use mltl_base::steps::Steps;
-use mltl_base::{Program, Seat};
 use obs_verify::Checked;
 use std::alloc::{AllocError, Global};
 use std::sync::ledger::Ledger;
@@ -23,18 +20,18 @@ pub struct Pt {
 }
 
 impl Pt {
-    ghost use Rattle.std.specs.Prelude.{ℕ, ◌+◌, ◌^◌, ◌<◌, ◌≤◌, List, [], ◌∷◌, ◌++◌, length, IfOk};
+    ghost use Rattle.std.specs.Prelude.{◌≡◌, ℕ, ◌+◌, ◌^◌, ◌<◌, ◌≤◌, List, [], ◌∷◌, ◌++◌, length, IfOk};
     ghost use Rattle.mltl_base.specs.declared.limits.TheConstants.{MAX_MISSION};
     ghost use Rattle.mltl_base.specs.Atoms.{Row};
     ghost use Rattle.booleanizer.specs.Evaluation.{numbers_on};
     ghost use Rattle.pt_boxes.specs.Running.{row_work};
     ghost use Rattle.pt_boxes.specs.Standing.{PtHasTaken, instruction_count, now_at};
 
-    /// The engine of a program, before the first row. It takes all its memory at once.
+    /// The engine of a program, before the first row. Allocates all its memory.
     pub fn make(alloc: Global, checked: &Checked) -> Result<Pt, AllocError>
         ensures stands { IfOk result (PtHasTaken checked.now []) }
     {
-        let program = program_of(checked);
+        let program = checked.program();
         let sizes = program.sizes.pt.as_slice();
         let mut nodes = Vec::with_capacity(alloc, sizes.len())?;
         let mut start = 0;
@@ -55,7 +52,7 @@ impl Pt {
         })
     }
 
-    /// Stands for no rows again, in the memory that it has.
+    /// Resets the engine to its state before the first row. It neither allocates nor frees.
     pub fn reset(&mut self, checked: &Checked)
         requires stands { (rows : List Row) × PtHasTaken checked.now rows self.old }
         ensures stands { PtHasTaken checked.now [] self.new }
@@ -74,7 +71,7 @@ impl Pt {
             → PtHasTaken checked.now (rows ++ row ∷ []) self.new }
         ensures counted { steps.new ≤ steps.old + row_work checked.now }
     {
-        let program = program_of(checked);
+        let program = checked.program();
         row_of(
             program.pt.as_slice(),
             bz,
@@ -94,12 +91,4 @@ impl Pt {
     {
         self.nodes.as_slice()[i as usize].truth
     }
-}
-
-/// The program of a checked one, which the engine can run.
-fn program_of(checked: &Checked) -> &Program
-    ensures program { result.now ≡ checked.now }
-    ensures runs { RunsPast checked.now }
-{
-    checked.program()
 }

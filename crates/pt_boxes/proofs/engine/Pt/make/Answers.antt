@@ -3,6 +3,7 @@ use Rattle.std.proofs.lemmas.Grind.{common_steps}
 use Rattle.std.proofs.lemmas.List.{length-map, length-replicate, take_all}
 use Rattle.mltl_base.specs.declared.program.Program.{Program}
 use Rattle.mltl_base.specs.Queues.{boxes_of}
+use Rattle.obs_verify.proofs.RunLaws.{runs_past}
 use Rattle.pt_boxes.specs.declared.boxes.Span.{Span}
 use Rattle.pt_boxes.specs.declared.rows.Node.{Node}
 use Rattle.pt_boxes.proofs.Making.{Started, made_stands, started_more, started_none}
@@ -33,13 +34,21 @@ loop-size-preserved c =
           (started_more sizes nodes c.loop-size.start c.loop-size.size-index new count c.loop-size.invariant.started (record { boxes = c.none.ensures; size = refl }) refl);
     }
 
+pub overflow_add-start : goal.overflow_add-start
+overflow_add-start c =
+    let program : Program = c.args.checked.now in
+    let runs = runs_past program c.program-program.ensures.layout c.program-program.ensures.well_formed in
+    let sizes : c.as_slice-sizes.result.now ≡ program.sizes.pt = c.as_slice-sizes.ensures ∙ ap (λ (p : Program). p.sizes.pt) c.program-program.ensures.program in
+    grind (arith, common_steps, runs.few, sizes, c.loop-size.invariant.total)
+
 pub returns : goal.returns
 returns c =
     let program : Program = c.args.checked.now in
-    let sizes : c.as_slice-sizes.result.now ≡ program.sizes.pt = c.as_slice-sizes.ensures ∙ ap (λ (p : Program). p.sizes.pt) c.program_of-program.ensures.program in
+    let runs = runs_past program c.program-program.ensures.layout c.program-program.ensures.well_formed in
+    let sizes : c.as_slice-sizes.result.now ≡ program.sizes.pt = c.as_slice-sizes.ensures ∙ ap (λ (p : Program). p.sizes.pt) c.program-program.ensures.program in
     let empty : Span = record { first = 0; last = 0 } in
     let ok = c.loop-size.nodes.ok.0 in
-    let count : length program.sizes.pt ≡ length program.pt = ap (λ (ns : List ℕ). length ns) c.program_of-program.ensures.runs.sizes ∙ length-map program.pt boxes_of in
+    let count : length program.sizes.pt ≡ length program.pt = ap (λ (ns : List ℕ). length ns) runs.sizes ∙ length-map program.pt boxes_of in
     let end : c.loop-size.size-index ≡ length program.pt = omega (arith, ap (λ (ns : List ℕ). length ns) sizes) in
     let long : c.loop-size.start ≡ length c.in_ok-slab.slab = sym (ap (λ (spans : List Span). length spans) c.in_ok-slab.ensures ∙ length-replicate c.loop-size.start empty) in
     let nodes : c.loop-size.nodes.items ≡ c.of.result = sym c.of.ensures in
@@ -49,7 +58,7 @@ returns c =
     (subst (λ (k : ℕ). Started c.as_slice-sizes.result.now c.loop-size.nodes.items k (length program.pt)) long
     (subst (λ (k : ℕ). Started c.as_slice-sizes.result.now c.loop-size.nodes.items c.loop-size.start k) end c.loop-size.invariant.started))) in
     record {
-      stands = made_stands program _ c.program_of-program.ensures.runs (omega (arith, c.loop-size.invariant.count, ap (λ (ns : List Node). length ns) nodes))
+      stands = made_stands program _ runs (omega (arith, c.loop-size.invariant.count, ap (λ (ns : List Node). length ns) nodes))
           started
           refl
           (sym long ∙ c.loop-size.invariant.total ∙ ap (λ (ns : List ℕ). sum ns) (take_all c.loop-size.size-index c.as_slice-sizes.result.now (omega arith) ∙ sizes));
