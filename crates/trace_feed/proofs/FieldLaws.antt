@@ -26,9 +26,6 @@ pub numeral_utf8 : (field : List ℕ) → is_numeral field ≡ true → IsUtf8 f
 numeral_utf8 [] h = IsUtf8-from_ascii [] IsAscii-nil
 numeral_utf8 (x ∷ xs) h = IsUtf8-from_ascii (x ∷ xs) (signed_ascii x xs (x == 45) (x == 43) refl refl (and_parts (nat_lt 0 (length (without_leading_sign (x ∷ xs)))) (list_all is_ascii_digit (without_leading_sign (x ∷ xs))) h).1)
 
-has_from_fits : (n : ℤ) → FitsSigned w32 n → has_32_bits n ≡ true
-has_from_fits n h = grind (arith, ints)
-
 pub fits_from_has : (n : ℤ) → has_32_bits n ≡ true → FitsSigned w32 n
 fits_from_has n h = grind (arith, ints)
 

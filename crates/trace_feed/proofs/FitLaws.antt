@@ -11,12 +11,12 @@ use Rattle.std.proofs.lemmas.List.Folds.{list_any_at}
 use Rattle.mltl_base.specs.Atoms.{Row, in_column}
 use Rattle.mltl_base.specs.Programs.{FitsRow, IsFit}
 use Rattle.mltl_base.specs.declared.operators.BzOp.{BzOp}
-use Rattle.mltl_base.specs.declared.operators.BzOp.TheVariants.{Column, IsTrue, Const, Neg, Add, Sub, Mul, Div, Rem, Eq, Lt, Le}
+use Rattle.mltl_base.specs.declared.operators.BzOp.TheVariants.{Column, IsTrue, Const}
 use Rattle.mltl_base.specs.declared.program.Program.{Program}
 use Rattle.mltl_base.specs.Blanks.{is_blank_line}
 use Rattle.trace_feed.specs.Blanks.{trimmed}
 use Rattle.trace_feed.specs.Readings.{fields_meaning}
-use Rattle.trace_feed.specs.Rows.{IsMeaningOf, LineMeaning, row, blank, too_few, not_whole, out_of_range, fields_of, has_32_bits, is_bit, is_numeral, field_before, line_meaning, field_number, reading_of, reads_truth, reads_whole, row_from, field_value}
+use Rattle.trace_feed.specs.Rows.{IsMeaningOf, LineMeaning, row, blank, too_few, fields_of, has_32_bits, is_bit, is_numeral, field_before, line_meaning, field_number, reading_of, reads_truth, reads_whole, row_from, field_value}
 use Rattle.trace_feed.specs.declared.fields.FieldFault.{FieldFault}
 use Rattle.trace_feed.specs.declared.fields.FieldFault.TheVariants.{NotWhole, OutOfRange}
 use Rattle.trace_feed.specs.declared.fields.Reading.{Reading}
@@ -44,12 +44,8 @@ values_step reading c field fields values (Ok n) (row vs) is rest e =
     each : HaveValues reading (suc c) fields vs → (k : ℕ) (d : ℤ) → k < length (field ∷ fields) → field_value (reading (c + k)) (get_or (field ∷ fields) k []) ≡ Ok (get_or (n ∷ vs) k d)
     each h zero d inside = let here : c + 0 ≡ c = omega arith in ap (λ k. field_value (reading k) field) here ∙ is
     each h (suc k) d inside = let there : c + suc k ≡ suc c + k = omega arith in ap (λ j. field_value (reading j) (get_or fields k [])) there ∙ h.each k d (omega arith)
-values_step reading c field fields values (Ok n) blank is rest e = absurd (cc)
-values_step reading c field fields values (Ok n) too_few is rest e = absurd (cc)
-values_step reading c field fields values (Ok n) (not_whole d) is rest e = absurd (cc)
-values_step reading c field fields values (Ok n) (out_of_range d) is rest e = absurd (cc)
 values_step reading c field fields values (Err NotWhole) m is rest e = absurd (cc)
-values_step reading c field fields values (Err OutOfRange) m is rest e = absurd (cc)
+values_step reading c field fields values _ _ is rest e = absurd (cc)
 
 pub have_values : (reading : ℕ → Reading) (c : ℕ) (fields : List (List ℕ)) (values : Row) → row_from reading c fields ≡ row values → HaveValues reading c fields values
 unfolding row_from

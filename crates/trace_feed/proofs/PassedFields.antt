@@ -1,9 +1,9 @@
 -- Fields that are passed over, by the commas after them.
-use Rattle.std.proofs.Common.{◌≡◌, ◌<◌, ◌≤◌, ◌+◌, ◌-◌, ℕ, pos, suc, zero, Bool, true, false, cond, List, [], ◌∷◌, ◌++◌, length, take, drop, get_or, refl, arith, sym, ◌∙◌, ap}
+use Rattle.std.proofs.Common.{◌≡◌, ◌<◌, ◌+◌, ◌-◌, ℕ, pos, suc, zero, Bool, true, false, cond, List, [], ◌∷◌, ◌++◌, length, take, drop, get_or, refl, arith, sym, ◌∙◌, ap}
 use Rattle.std.specs.Prelude.{count_by, replicate}
 use Rattle.std.specs.List.{onto_first}
 use mir.Val.{bool_byte}
-use Rattle.std.proofs.lemmas.List.{drop-drop, drop_all, drop_more, take-append-drop}
+use Rattle.std.proofs.lemmas.List.{drop-drop, drop_more, take-append-drop}
 use Rattle.std.proofs.lemmas.List.Sums.{sum_by-cons}
 use Rattle.std.proofs.lemmas.List.Splits.{length-slice_split}
 use Rattle.trace_feed.specs.Rows.{fields_from, fields_of, is_comma}
@@ -13,7 +13,7 @@ use Rattle.trace_feed.specs.declared.fields.Reading.TheVariants.{Unread}
 use Rattle.trace_feed.specs.declared.unread_fields.Spot.{Spot}
 use Rattle.trace_feed.specs.Readings.{AreReadings, PassesOver, fields_meaning}
 use Rattle.trace_feed.specs.Rows.{LineMeaning}
-use Rattle.trace_feed.proofs.RowLaws.{Says, no_field, onto, says_passed, some_fields}
+use Rattle.trace_feed.proofs.RowLaws.{Says, onto, says_passed}
 
 -- after so many fields from one place on stands what stands after those that are left from another one on
 abbrev pub AreAfter : List ℕ → ℕ → ℕ → ℕ → ℕ → Type 0
@@ -61,32 +61,6 @@ block_from line at size n fewer =
     ap (λ (bytes : List ℕ). drop n (fields_of bytes)) (sym (take-append-drop size (drop at line)))
     ∙ block here (drop size (drop at line)) n fewer
     ∙ ap (λ (bytes : List ℕ). drop (n - count_by is_comma here) (fields_of bytes)) (drop-drop size at line)
-
--- the place that was looked for
-pub found : (line : List ℕ) (from count at left : ℕ) → from ≤ length line → at ≤ length line → left ≡ 0 → AreAfter line from count at left → fields_from line at ≡ drop count (fields_from line from)
-found line from count at left first inside none after =
-    some_fields line at inside
-    ∙ ap (λ n. drop n (fields_of (drop at line))) (sym none)
-    ∙ after
-    ∙ ap (drop count) (sym (some_fields line from first))
-
--- there are fewer fields
-nothing_left : (n : ℕ) → 0 < n → drop n (fields_of []) ≡ []
-nothing_left n some = drop_all n (fields_of []) (omega arith)
-
-pub wanting : (line : List ℕ) (from count at left : ℕ) → from ≤ length line → length line ≤ at → 0 < left → AreAfter line from count at left → fields_from line (length line + 1) ≡ drop count (fields_from line from)
-wanting line from count at left first past some after =
-    no_field line (length line + 1) (omega arith)
-    ∙ sym (nothing_left left some)
-    ∙ ap (λ (bytes : List ℕ). drop left (fields_of bytes)) (sym (drop_all at line past))
-    ∙ after
-    ∙ ap (drop count) (sym (some_fields line from first))
-
--- past the end there are none
-pub past_end : (line : List ℕ) (from count : ℕ) → length line < from → fields_from line from ≡ drop count (fields_from line from)
-past_end line from count past =
-    let none : fields_from line from ≡ [] = no_field line from past in
-    none ∙ sym (drop_all count [] (omega arith)) ∙ ap (drop count) (sym none)
 
 -- what is said of the line is said of it after the columns that were passed over
 pub says_over : (reading : ℕ → Reading) (readings : List Reading) (width : ℕ) (line : List ℕ) (old new : Row) (from to : Spot) (m : LineMeaning) → AreReadings reading readings → length readings ≡ width

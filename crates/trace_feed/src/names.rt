@@ -1,6 +1,6 @@
 //! The names of a header's columns.
 
-ghost use Rattle.std.specs.Prelude.{◌≡◌, ◌<◌, ◌^◌, ◌++◌, ◌∷◌, [], ℕ, List, Some, length, map, slice_get, OnOk, IfOk};
+ghost use Rattle.std.specs.Prelude.{◌≡◌, ◌<◌, ◌≤◌, ◌^◌, ◌++◌, ◌∷◌, [], ℕ, List, Some, length, map, slice_get, OnOk, IfOk};
 ghost use Rattle.csv.specs.Records.{fields_of};
 ghost use Rattle.trace_feed.specs.Blanks.{trimmed as without_blanks};
 ghost use Rattle.trace_feed.specs.Header.{column_of};
@@ -55,12 +55,12 @@ impl Places {
     }
 
     fn note(&mut self, alloc: Global, name: &Name, column: u32) -> Result<(), AllocError>
+        requires some { 1 ≤ length name.now }
+        requires limit { length name.now ≤ 64 }
         ensures { OnOk result ((names : List (List ℕ)) → length names ≡ column
             → AreColumnPlaces names self.old
             → AreColumnPlaces (names ++ name.now ∷ []) self.new) }
     {
-        // The bounds of a name come from its type, and only a call brings them.
-        let _ = name.bytes();
         if !self.first.contains(name) {
             self.first.add(alloc, name, column)?;
         } else if !self.again.contains(name) {
