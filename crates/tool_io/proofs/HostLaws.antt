@@ -1,10 +1,10 @@
 -- Laws of the counts of faults and of what is left: calls one after another.
-use Rattle.std.proofs.Common.{◌≡◌, ℕ, Option, List, refl, sym, ◌∙◌, ap, subst, arith}
+use Rattle.std.proofs.Common.{◌≡◌, ℕ, refl, sym, ◌∙◌, ap, subst, arith}
 use Rattle.std.proofs.lemmas.Bool.Decides.{nat_tests}
 use Rattle.tool_io.specs.declared.host.Place.{Place}
 use Rattle.tool_io.specs.declared.host.Got as got
 use Rattle.tool_io.specs.Counts.{one_more}
-use Rattle.tool_io.specs.Host.{Rose, RoseByOne, RoseAt, NoFault, ReadCause, LeftAlone, LeftElsewhere}
+use Rattle.tool_io.specs.Host.{Rose, RoseByOne, RoseAt, NoFault, ReadCause}
 
 one_more-rose : (count : ℕ) → Rose count (one_more count)
 one_more-rose count = grind (arith, nat_tests)
@@ -12,10 +12,6 @@ one_more-rose count = grind (arith, nat_tests)
 -- a count that rose by one rose
 pub Rose-by_one : (before now : ℕ) → RoseByOne before now → Rose before now
 Rose-by_one before now one = subst (λ n. Rose before n) (sym one) (one_more-rose before)
-
--- no call changes no count
-pub NoFault-none : (counts : Place → ℕ) → NoFault counts counts
-NoFault-none counts place = refl
 
 -- no fault and again none
 pub NoFault-then : (before between now : Place → ℕ) → NoFault before between → NoFault between now → NoFault before now
@@ -36,19 +32,6 @@ RoseAt-before before between now place first second =
       rose = second place ∙ first.rose;
       others = λ p other. second p ∙ first.others p other;
     }
-
--- what is left stays over no call, and over calls that let it stay
-pub LeftAlone-none : (left : Place → Option (List ℕ)) → LeftAlone left left
-LeftAlone-none left place = refl
-
-pub LeftAlone-then : (before between now : Place → Option (List ℕ)) → LeftAlone before between → LeftAlone between now → LeftAlone before now
-LeftAlone-then before between now first second place = second place ∙ first place
-
-pub LeftElsewhere-none : (left : Place → Option (List ℕ)) (place : Place) → LeftElsewhere left left place
-LeftElsewhere-none left place p other = refl
-
-pub LeftElsewhere-then : (before between now : Place → Option (List ℕ)) (place : Place) → LeftElsewhere before between place → LeftElsewhere between now place → LeftElsewhere before now place
-LeftElsewhere-then before between now place first second p other = second p other ∙ first p other
 
 -- a read that didn't fail changes no count
 pub NoFault-from_read : (result : got.Got) (before now : Place → ℕ) (place : Place) → (result ≡ got.TheVariants.Failed → ⊥) → ReadCause result before now place → NoFault before now

@@ -4,7 +4,7 @@ use Rattle.std.proofs.lemmas.List.{append-nil, map-append}
 use Rattle.std.proofs.lemmas.List.Folds.{concat-append}
 use Rattle.std.specs.List.{concat}
 use Rattle.tool_io.specs.declared.host.Place.{Place}
-use Rattle.tool_io.specs.declared.host.Place.TheVariants.{Spec, Header, Program, Trace, Out, Err}
+use Rattle.tool_io.specs.declared.host.Place.TheVariants.{Spec}
 use Rattle.tool_io.specs.Log.{Event, Attached, Missed, Took, Gave, IsProperFront, same_place, taken, given, is_empty, ended_from, names_of, Appends, OnLog, Reads, meets_end, Writes, WritesFront}
 
 -- no event
@@ -122,13 +122,6 @@ took-taken place (piece ∷ pieces) = rw (same_place-self place) (ap (λ rest. p
 pub Reads-taken : (place : Place) (pieces : List (List ℕ)) (events : List Event) → Reads place pieces events → taken place events ≡ concat pieces
 Reads-taken place pieces events reads = ap (taken place) reads ∙ took-taken place pieces
 
-took-elsewhere : (place p : Place) (pieces : List (List ℕ)) → same_place p place ≡ false → taken p (map (Took place) pieces) ≡ []
-took-elsewhere place p [] other = refl
-took-elsewhere place p (piece ∷ pieces) other = rw other (took-elsewhere place p pieces other)
-
-pub Reads-taken_elsewhere : (place p : Place) (pieces : List (List ℕ)) (events : List Event) → same_place p place ≡ false → Reads place pieces events → taken p events ≡ []
-Reads-taken_elsewhere place p pieces events other reads = ap (taken p) reads ∙ took-elsewhere place p pieces other
-
 took-given : (place p : Place) (pieces : List (List ℕ)) → given p (map (Took place) pieces) ≡ []
 took-given place p [] = refl
 took-given place p (piece ∷ pieces) = took-given place p pieces
@@ -149,13 +142,6 @@ took-ended ended place (piece ∷ pieces) = ap (λ v. ended_from (if v then is_e
 
 pub Reads-ended : (ended : Bool) (place : Place) (pieces : List (List ℕ)) (events : List Event) → Reads place pieces events → ended_from ended place events ≡ meets_end ended pieces
 Reads-ended ended place pieces events reads = ap (ended_from ended place) reads ∙ took-ended ended place pieces
-
-took-ended_elsewhere : (ended : Bool) (place p : Place) (pieces : List (List ℕ)) → same_place p place ≡ false → ended_from ended p (map (Took place) pieces) ≡ ended
-took-ended_elsewhere ended place p [] other = refl
-took-ended_elsewhere ended place p (piece ∷ pieces) other = ap (λ v. ended_from (if v then is_empty piece else ended) p (map (Took place) pieces)) other ∙ took-ended_elsewhere ended place p pieces other
-
-pub Reads-ended_elsewhere : (ended : Bool) (place p : Place) (pieces : List (List ℕ)) (events : List Event) → same_place p place ≡ false → Reads place pieces events → ended_from ended p events ≡ ended
-Reads-ended_elsewhere ended place p pieces events other reads = ap (ended_from ended p) reads ∙ took-ended_elsewhere ended place p pieces other
 
 -- what writes give, take, name and meet
 gave-given : (place : Place) (pieces : List (List ℕ)) → given place (map (Gave place) pieces) ≡ concat pieces

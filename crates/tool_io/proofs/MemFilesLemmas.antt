@@ -11,7 +11,7 @@ use Rattle.std.proofs.lemmas.List.Quantifiers.{position-Some}
 use Rattle.std.proofs.lemmas.Option.{slice_get-get_or, slice_get_cases}
 use Rattle.std.proofs.lemmas.Bool.Decides.{nat_tests}
 use Rattle.tool_io.specs.declared.host.Place.{Place}
-use Rattle.tool_io.specs.declared.host.Place.TheVariants.{Spec, Header, Program, Trace, Out, Err}
+use Rattle.tool_io.specs.declared.host.Place.TheVariants.{Spec, Header, Program, Trace}
 use Rattle.tool_io.specs.declared.mem_files.Cursor.{Cursor}
 use Rattle.tool_io.specs.declared.mem_files.Cursors.{Cursors}
 use Rattle.tool_io.specs.Cursors.{cursor_at, with_cursor}
@@ -89,10 +89,6 @@ fits_at files cursors place cursor at fits = rw at at fits
 pub left_is : (files : List NamedBytes) (cursors : Cursors) (stored : Stored) (place : Place) (cursor : Cursor) → record { files = files; readings = cursor_readings files cursors } ≡ stored
     → cursor_at cursors place ≡ Some cursor → left_of stored place ≡ Some (cursor_reading files cursor).left
 left_is files cursors stored place cursor seen at = rw (← seen) (rw (reading_at-readings_of, at))
-
-pub left_none : (files : List NamedBytes) (cursors : Cursors) (stored : Stored) (place : Place) → record { files = files; readings = cursor_readings files cursors } ≡ stored
-    → cursor_at cursors place ≡ None → left_of stored place ≡ None
-left_none files cursors stored place seen at = rw (← seen) (rw (reading_at-readings_of, at))
 
 pub left_bound : (files : List NamedBytes) (cursors : Cursors) (stored : Stored) (place : Place) (cursor : Cursor) (count : ℕ) → record { files = files; readings = cursor_readings files cursors } ≡ stored
     → cursor_at cursors place ≡ Some cursor → IsWithin files cursor → ForSome (left_of stored place) (λ left. count ≤ length left) → count ≤ cursor.left

@@ -23,11 +23,6 @@ pub record HasRead (place : Place) (old now : Cutting) (events : List Event) : T
   pub ended : now.ended ≡ meets_end old.ended pieces
   pub all : now.pending ≡ old.pending ++ concat pieces
 
--- no read
-pub HasRead-none : (place : Place) (old now : Cutting) → now.pending ≡ old.pending → now.ended ≡ old.ended → HasRead place old now []
-HasRead-none place old now pending ended =
-    record { pieces = []; reads = refl; needed = tt; no_more = λ met. refl; ended = ended; all = pending ∙ sym (append-nil old.pending) }
-
 needed_more : (pending : List ℕ) (pieces : List (List ℕ)) (piece : List ℕ) → OnlyWhereNeeded pending pieces → HasNoNewline (pending ++ concat pieces) → length (pending ++ concat pieces) < 65536 → OnlyWhereNeeded pending (pieces ++ piece ∷ [])
 needed_more pending [] piece needed none room = let same = append-nil pending in (subst HasNoNewline same none, subst (λ bytes. length bytes < 65536) same room, tt)
 needed_more pending (first ∷ pieces) piece needed none room =

@@ -5,7 +5,7 @@ use Rattle.std.proofs.lemmas.Bool.Decides.{nat_tests}
 use Rattle.std.specs.Prelude.{IsTrue, nat_lt, nat_le}
 use Rattle.tool_io.specs.declared.host.Place.{Place}
 use Rattle.tool_io.specs.declared.tape.Deed.{Deed}
-use Rattle.tool_io.specs.declared.tape.Deed.TheVariants.{Attach, Miss, Take, Give}
+use Rattle.tool_io.specs.declared.tape.Deed.TheVariants.{Attach}
 use Rattle.tool_io.specs.declared.tape.Mark.{Mark}
 use Rattle.tool_io.specs.Log.{Event, Attached, Missed, Took, Gave, given, same_place}
 use Rattle.tool_io.specs.declared.tape.Tape.TheInside.{Inside}

@@ -44,10 +44,6 @@ Writes-stop before between now place piece sent more log none =
           };
     }
 
--- no read
-pub Takes-none : (place : Place) → Draws place [] false []
-Takes-none place = record { pieces = []; are = refl; joined = refl; end = refl }
-
 -- one more read, of this piece
 pub Takes-piece : (place : Place) (bytes piece : List ℕ) (ended : Bool) (events : List Event) → Draws place bytes ended events → Draws place (bytes ++ piece) (is_empty piece) (events ++ Took place piece ∷ [])
 Takes-piece place bytes piece ended events takes =
