@@ -12,7 +12,7 @@ use Rattle.mltl_base.specs.Tables.{Table}
 use Rattle.count_sets.specs.Counting as counting
 use Rattle.count_sets.specs.Counting.{Counted, least}
 use Rattle.count_sets.specs.declared.gate.Gate.{Gate}
-use Rattle.count_sets.specs.Gates.{formula_of_gate, gate_meaning as gate_formula, gate_formulas, last_formula, IsOver, IsNetwork}
+use Rattle.count_sets.specs.Gates.{formula_of_gate, gate_meaning as gate_formula, gate_formulas, last_formula}
 use Rattle.count_sets.proofs.Thresholds.{least_above}
 use Rattle.count_sets.proofs.Unfolding.{formulas_push}
 use Rattle.c2po_nodes.specs.declared.nodes.Plain.{Plain}
@@ -87,9 +87,6 @@ pub record CountedSoFar (names : Table Declared) (old now : List Plain) (vs : Li
   pub more : IsMore names old now
   pub are : AreFormulas now places
   pub have : HaveFormulas now places (map formula_of (take i vs))
-
-pub counted_start : (names : Table Declared) (nodes : List Plain) (vs : List Value) → CountedSoFar names nodes nodes vs 0 []
-counted_start names nodes vs = record { more = more_same names nodes; are = are_none nodes; have = have_none nodes }
 
 -- and one more
 pub counted_more : (names : Table Declared) (old now new : List Plain) (vs : List Value) (i n : ℕ) (places : List ℕ) (v : Value)
@@ -227,7 +224,3 @@ spliced_last names old now gates bodies done i ps c s all h last some =
     have.each (length gates - 1) (get_or done (length gates - 1) 0) (counted_formula ps c)
     (slice_get-get_or done (length gates - 1) 0 (omega (arith, s.count)))
     (slice_get-map (counted_formula ps) (gate_formulas gates) (length gates - 1) ∙ ap (option_map (counted_formula ps)) last)
-
--- a gate of a network
-pub gate_over : (n i : ℕ) (gates : List Gate) (gate : Gate) (k : ℕ) → IsNetwork n gates → slice_get gates i ≡ Some gate → k ≡ i → IsOver n k gate
-gate_over n i gates gate k net at e = subst (λ j. IsOver n j gate) (sym e) (net.over i gate at)

@@ -1,26 +1,20 @@
 -- Nodes that get one more, and operators over their operands' nodes.
 
-use Rattle.std.proofs.Common.{None, Some, ℕ, Bool, true, false, ◌<◌, List, [], ◌∷◌, ◌++◌, subst}
-use Rattle.mltl_base.specs.declared.interval.Interval.{Interval}
-use Rattle.mltl_base.specs.declared.operators.ArithOp.{ArithOp}
-use Rattle.mltl_base.specs.declared.operators.CompareOp.{CompareOp}
+use Rattle.std.proofs.Common.{Some, ℕ, List, [], ◌∷◌, ◌++◌, subst}
 use Rattle.mltl_base.specs.declared.operators.LogicOp.{LogicOp}
-use Rattle.mltl_base.specs.declared.operators.WindowOp.{WindowOp}
-use Rattle.mltl_base.specs.declared.operators.BetweenOp.{BetweenOp}
-use Rattle.mltl_base.specs.Atoms.{Term, negative}
-use Rattle.mltl_base.specs.Formula.{Formula, atom, negation}
+use Rattle.mltl_base.specs.Formula.{Formula}
 use Rattle.mltl_base.specs.Tables.{Table}
 use Rattle.c2po_nodes.specs.declared.nodes.Plain.{Plain}
 use Rattle.c2po_nodes.specs.declared.nodes.Plain.TheVariants as plain
-use Rattle.c2po_nodes.specs.Nodes.{Grows, Tree, number, formula, node_term, node_formula, arithmetic, comparison, connected, windowed, ranged, tree_of, trees, Has, IsFormed}
-use Rattle.c2po_nodes.proofs.Pushing.{grows_same, grows_then, grows_push, sound_push, formula_in_place, number_at}
+use Rattle.c2po_nodes.specs.Nodes.{Grows, number, formula, node_formula, connected, tree_of, trees, Has, IsFormed}
+use Rattle.c2po_nodes.proofs.Pushing.{grows_same, grows_then, grows_push, sound_push, formula_in_place}
 use Rattle.set_expand.specs.declared.names.Declared.{Declared}
 use Rattle.set_expand.specs.Names.{SignalsBelow}
 use Rattle.set_expand.specs.declared.names.Entry.{Entry}
 use Rattle.set_expand.specs.declared.names.Entry.TheVariants as entry
 use Rattle.set_expand.specs.declared.nodes.Made.{Made}
 use Rattle.set_expand.specs.declared.nodes.Made.TheVariants as made
-use Rattle.set_expand.specs.Nodes.{HaveNodes, IsKept, IsMade, IsMore, signal_node}
+use Rattle.set_expand.specs.Nodes.{HaveNodes, IsKept, IsMade, IsMore}
 use Rattle.c2po_unfold.specs.Values.{Value}
 
 -- what is kept stays where nodes get more
@@ -30,10 +24,8 @@ made_later old new (made.Formula n) v g h = (h.0, h.1, g.kept n (formula h.0) h.
 made_later old new made.Whole v g h = h
 
 entry_later : (names : Table Declared) (old new : List Plain) (e : Entry) → Grows old new → IsKept old names e → IsKept new names e
-entry_later names old new (entry.Struct fs i) g h = tt
-entry_later names old new (entry.Signal b k) g h = tt
-entry_later names old new (entry.Defined e n None) g h = tt
 entry_later names old new (entry.Defined e n (Some m)) g h = made_later old new m _ g h
+entry_later names old new _ g h = tt
 
 have_later : (names : Table Declared) (old new : List Plain) → Grows old new → HaveNodes old names → HaveNodes new names
 have_later names old new g h = record { each = λ x d at. entry_later names old new d.entry g (h.each x d at) }
@@ -56,42 +48,9 @@ more_push names nodes node formed = record {
   sound = λ signals below h. sound_push signals nodes node h (formed signals below);
 }
 
--- the node of a signal that is one of those that there are
-pub signal_formed : (b : Bool) (n signals : ℕ) (ts : List Tree) → n < signals → IsFormed signals ts (signal_node b n)
-signal_formed true n signals ts h = h
-signal_formed false n signals ts h = h
-
-module _ (old new : List Plain) (n : ℕ) where
-  pub minus_has : (x : ℕ) (a : Term) → Has new n (tree_of (trees old) (plain.Minus x)) → Has old x (number a) → Has new n (number (negative a))
-  minus_has x a h p = subst (λ r. Has new n (number (negative r))) (number_at old x a p) h
-
-  pub not_has : (x : ℕ) (p : Formula) → Has new n (tree_of (trees old) (plain.Not x)) → Has old x (formula p) → Has new n (formula (negation p))
-  not_has x p h a = subst (λ r. Has new n (formula (negation r))) (formula_in_place old x p a) h
-
-  pub window_has : (op : WindowOp) (i : Interval) (x : ℕ) (p : Formula) → Has new n (tree_of (trees old) (plain.Window op i x))
-      → Has old x (formula p) → Has new n (formula (windowed op i p))
-  window_has op i x p h a = subst (λ r. Has new n (formula (windowed op i r))) (formula_in_place old x p a) h
-
-  pub arith_has : (op : ArithOp) (x y : ℕ) (a b : Term) → Has new n (tree_of (trees old) (plain.Arith op x y))
-      → Has old x (number a) → Has old y (number b) → Has new n (number (arithmetic op a b))
-  arith_has op x y a b h p q =
-      subst (λ r. Has new n (number (arithmetic op a r))) (number_at old y b q)
-      (subst (λ r. Has new n (number (arithmetic op r (node_term (trees old) y)))) (number_at old x a p) h)
-
-  pub compare_has : (op : CompareOp) (x y : ℕ) (a b : Term) → Has new n (tree_of (trees old) (plain.Compare op x y))
-      → Has old x (number a) → Has old y (number b) → Has new n (formula (atom (comparison op a b)))
-  compare_has op x y a b h p q =
-      subst (λ r. Has new n (formula (atom (comparison op a r)))) (number_at old y b q)
-      (subst (λ r. Has new n (formula (atom (comparison op r (node_term (trees old) y))))) (number_at old x a p) h)
-
-  pub logic_has : (op : LogicOp) (x y : ℕ) (p q : Formula) → Has new n (tree_of (trees old) (plain.Logic op x y))
-      → Has old x (formula p) → Has old y (formula q) → Has new n (formula (connected op p q))
-  logic_has op x y p q h a b =
-      subst (λ r. Has new n (formula (connected op p r))) (formula_in_place old y q b)
-      (subst (λ r. Has new n (formula (connected op r (node_formula (trees old) y)))) (formula_in_place old x p a) h)
-
-  pub between_has : (op : BetweenOp) (i : Interval) (x y : ℕ) (p q : Formula) → Has new n (tree_of (trees old) (plain.Between op i x y))
-      → Has old x (formula p) → Has old y (formula q) → Has new n (formula (ranged op i p q))
-  between_has op i x y p q h a b =
-      subst (λ r. Has new n (formula (ranged op i p r))) (formula_in_place old y q b)
-      (subst (λ r. Has new n (formula (ranged op i r (node_formula (trees old) y)))) (formula_in_place old x p a) h)
+-- a connective over its operands' nodes
+pub logic_has : (old new : List Plain) (n : ℕ) (op : LogicOp) (x y : ℕ) (p q : Formula) → Has new n (tree_of (trees old) (plain.Logic op x y))
+    → Has old x (formula p) → Has old y (formula q) → Has new n (formula (connected op p q))
+logic_has old new n op x y p q h a b =
+    subst (λ r. Has new n (formula (connected op p r))) (formula_in_place old y q b)
+    (subst (λ r. Has new n (formula (connected op r (node_formula (trees old) y)))) (formula_in_place old x p a) h)

@@ -58,22 +58,13 @@ module _ (names : Table Declared) where
 -- what is no name, no picked field and no struct's value is its own part
 pub unbuilt_picked : (e : Shape) (env : Env) (fields : List ℕ → List (List ℕ)) (f : List ℕ) → leads_on e ≡ false → is_build e ≡ false →
     value_of e env ≡ picked fields f (value_of e env)
-unbuilt_picked (tree.number line n) env fields f a b = refl
-unbuilt_picked (tree.truth line v) env fields f a b = refl
 unbuilt_picked (tree.named line x) env fields f a b = absurd (cc)
 unbuilt_picked (tree.build line x es) env fields f a b = absurd (cc)
-unbuilt_picked (tree.group line es) env fields f a b = refl
 unbuilt_picked (tree.pick line e x) env fields f a b = absurd (cc)
-unbuilt_picked (tree.minus line e) env fields f a b = refl
-unbuilt_picked (tree.negation line e) env fields f a b = refl
-unbuilt_picked (tree.arith line op e g) env fields f a b = refl
-unbuilt_picked (tree.compare line op e g) env fields f a b = refl
-unbuilt_picked (tree.logic line op e g) env fields f a b = refl
-unbuilt_picked (tree.window line op m n e) env fields f a b = refl
-unbuilt_picked (tree.between line op m n e g) env fields f a b = refl
 unbuilt_picked (tree.each line x s e) env fields f a b = sym (leaf_picked (tree.each line x s e) env _ fields f refl refl)
 unbuilt_picked (tree.exists line x s e) env fields f a b = sym (leaf_picked (tree.exists line x s e) env _ fields f refl refl)
 unbuilt_picked (tree.count line op x s m e) env fields f a b = sym (leaf_picked (tree.count line op x s m e) env _ fields f refl refl)
+unbuilt_picked _ env fields f a b = refl
 
 -- what an expression leads to so far: it has the expression's value, its signal is one of the names', and its node
 -- is there

@@ -62,7 +62,3 @@ some_counted nodes n op m (v ∷ vs) some h =
 pub made_joined : (nodes : List Plain) (n : ℕ) (op : LogicOp) (vs : List Value) → Has nodes n (formula (formula_of (connected_all op vs)))
     → IsMade nodes (made.Formula n) (connected_all op vs)
 made_joined nodes n op vs h = (formula_of (connected_all op vs), refl, h)
-
-pub made_counted : (nodes : List Plain) (n : ℕ) (op : CountOp) (m : ℕ) (vs : List Value) → Has nodes n (formula (formula_of (counted op m vs)))
-    → IsMade nodes (made.Formula n) (counted op m vs)
-made_counted nodes n op m vs h = (formula_of (counted op m vs), refl, h)

@@ -22,9 +22,6 @@ use Rattle.c2po_types.specs.Declares.{after_others, declarations_of, total_weigh
 use Rattle.c2po_types.specs.FirstFault.{earliest, fault_if, fault_unless, label_fault, range_fault, is_mixed, body_faults, item_faults, first_fault}
 use Rattle.c2po_types.specs.Outputs.{Place, before, place_after, place_by}
 use Rattle.c2po_types.proofs.Found.{earliest-append}
-use Rattle.c2po_unfold.specs.declared.operators.BinaryOp.{BinaryOp}
-use Rattle.c2po_unfold.specs.declared.operators.UnaryOp.{UnaryOp}
-use Rattle.c2po_unfold.specs.Operators.{binary_value, unary_value}
 use Rattle.c2po_unfold.specs.Environment.{value_of}
 use Rattle.c2po_unfold.specs.Faults.{value_fault}
 use Rattle.c2po_unfold.specs.Values.{Value, connected_all, counted, formula_of}
@@ -106,16 +103,6 @@ light-from after (i ∷ items) p known h =
 pub are-light : (items : List ItemShape) → first_fault items ≡ None → AreLight items before
 unfolding first_fault
 are-light items h = light-from (λ more. more) items before (λ more. refl) h
-
--- operands of what is light
-pub light-one : (op : UnaryOp) (v w : Value) → unary_value op v ≡ w → IsLight w → IsLight v
-light-one op v w is light = omega (arith, light, ap weight is)
-
-pub light-left : (op : BinaryOp) (u v w : Value) → binary_value op u v ≡ w → IsLight w → IsLight u
-light-left op u v w is light = omega (arith, light, ap weight is)
-
-pub light-right : (op : BinaryOp) (u v w : Value) → binary_value op u v ≡ w → IsLight w → IsLight v
-light-right op u v w is light = omega (arith, light, ap weight is)
 
 -- values that together are light
 all-light : (vs : List Value) → sum_by weight vs ≤ MAX_WEIGHT → All IsLight vs

@@ -65,10 +65,8 @@ meaning_kept envs more k (entry.Defined e n made) early h =
 
 -- what an entry means is known
 meaning_stays : (envs : List Env) (e : Entry) (k : Known) → or_else (meaning_in envs e) k ≡ meaning_in envs e
-meaning_stays envs (entry.Struct fs i) k = refl
 meaning_stays envs (entry.Signal true n) k = refl
-meaning_stays envs (entry.Signal false n) k = refl
-meaning_stays envs (entry.Defined e n made) k = refl
+meaning_stays envs _ k = refl
 
 or_nothing : (k : Known) → or_else k nothing ≡ k
 or_nothing nothing = refl

@@ -1,4 +1,4 @@
--- Values of expressions read signals by their kinds, where what names stand for does.
+-- Values of expressions read signals by their kinds, where the meanings of names do.
 
 use Rattle.std.proofs.Common.{ℕ, Bool, true, false, List}
 use Rattle.mltl_base.specs.declared.operators.ArithOp.{ArithOp}
@@ -22,7 +22,7 @@ use Rattle.c2po_unfold.specs.Environment.{Env, Known, nothing, declare, value_of
 use Rattle.c2po_unfold.proofs.ValueWalk.{Any, EnvHas, Keeps, KnownHas, ValueHas, any_constants, declare_has, formula_has, nothing_has, value_has}
 
 module _ (kinds : List Bool) where
-  -- a value, and what names stand for, read signals by their kinds
+  -- a value, and the meanings of names, read signals by their kinds
   abbrev pub ValueReads : Value → Type 0
   ValueReads v = ValueHas (ReadsWholes kinds) (ReadsKinds kinds) v
 

@@ -49,9 +49,6 @@ values_read front (contract engine label e f) rest p n h = h
 
 -- what an item asks for
 asked_reads : (kinds : List Bool) (body : BodyShape) (p : Place) → EnvReads kinds p.values → All (ReadsSignals kinds) (asked_at body p)
-asked_reads kinds (structure x fs) p h = All-nil (ReadsSignals kinds)
-asked_reads kinds (input xs t) p h = All-nil (ReadsSignals kinds)
-asked_reads kinds (define x e) p h = All-nil (ReadsSignals kinds)
 asked_reads kinds (formula engine label e) p h =
     let one = formula_reads kinds (value_of e p.values) (value_reads kinds e p.values h) in
     All-cons (ReadsSignals kinds) _ [] (All-cons (ReadsKinds kinds) _ [] one (All-nil (ReadsKinds kinds))) (All-nil (ReadsSignals kinds))
@@ -59,8 +56,9 @@ asked_reads kinds (contract engine label e f) p h =
     let left = formula_reads kinds (value_of e p.values) (value_reads kinds e p.values h) in
     let right = formula_reads kinds (value_of f p.values) (value_reads kinds f p.values h) in
     All-cons (ReadsSignals kinds) _ [] (All-cons (ReadsKinds kinds) (formula_of (value_of e p.values)) (formula_of (value_of f p.values) ∷ []) left (All-cons (ReadsKinds kinds) (formula_of (value_of f p.values)) [] right (All-nil (ReadsKinds kinds)))) (All-nil (ReadsSignals kinds))
+asked_reads kinds _ p h = All-nil (ReadsSignals kinds)
 
--- what items ask for, after a front of signals
+-- what items ask for, after some signals
 outputs_read : (front : List Bool) (items : List ItemShape) (p : Place) → p.signals ≡ length front
     → EnvReads (front ++ kinds_of (signals_of items)) p.values → All (ReadsSignals (front ++ kinds_of (signals_of items))) (asked_from items p)
 unfolding asked_from

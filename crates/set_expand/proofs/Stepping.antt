@@ -1,4 +1,4 @@
--- One more item: what stands after it, and what is left.
+-- One more item: what is known after it, and what is left.
 
 use Rattle.std.proofs.Common.{◌≡◌, ℕ, suc, ◌+◌, Option, option_map, slice_get, ◌<◌, ◌≤◌, ◌^◌, Bool, Some, None, List, [], ◌∷◌, ◌++◌, map, length, drop, get_or, refl, sym, ap, subst, ◌∙◌, append_assoc, arith}
 use Rattle.std.specs.Prelude.{All}
@@ -13,7 +13,7 @@ use Rattle.mltl_base.specs.Reports as output
 use Rattle.mltl_base.specs.Subformulas.{Asked, IsTensed}
 use Rattle.mltl_base.specs.Tables.{Table}
 use Rattle.c2po_nodes.specs.declared.nodes.Plain.{Plain}
-use Rattle.c2po_nodes.specs.declared.nodes.Plain.TheVariants.{Truth, Flag, Number, Signal as Column, Minus, Arith, Compare, Not, Logic, Window, Between}
+use Rattle.c2po_nodes.specs.declared.nodes.Plain.TheVariants.{Flag, Signal as Column}
 use Rattle.c2po_nodes.specs.declared.nodes.PlainOut.{PlainOut}
 use Rattle.c2po_nodes.specs.declared.nodes.PlainOut.TheVariants as out
 use Rattle.c2po_nodes.specs.Nodes.{Tree, formula, node_formula, trees, Has, IsFormed, AreSound}
@@ -35,7 +35,7 @@ use Rattle.set_expand.specs.declared.items.Unfolded.{Unfolded}
 use Rattle.set_expand.specs.declared.names.Declared.{Declared}
 use Rattle.set_expand.specs.declared.names.Entry.{Entry}
 use Rattle.set_expand.specs.declared.names.Entry.TheVariants as entry
-use Rattle.set_expand.specs.Light.{AreLight, IsLightItem}
+use Rattle.set_expand.specs.Light.{AreLight}
 use Rattle.set_expand.specs.Names.{EntryBelow, SignalsBelow, env_now, envs_of}
 use Rattle.set_expand.specs.Nodes.{HaveNodes, IsMore}
 use Rattle.set_expand.specs.Unfolded.{AskFor, Leaves, StandsAt}
@@ -43,17 +43,9 @@ use Rattle.set_expand.proofs.Asking.{asks-none, asks-later, asks-push}
 
 -- nodes over more signals
 formed-more : (m n : ℕ) (earlier : List Tree) (node : Plain) → m ≤ n → IsFormed m earlier node → IsFormed n earlier node
-formed-more m n earlier (Truth v) le h = h
 formed-more m n earlier (Flag s) le h = omega arith
-formed-more m n earlier (Number k) le h = h
 formed-more m n earlier (Column s) le h = omega arith
-formed-more m n earlier (Minus a) le h = h
-formed-more m n earlier (Arith op a b) le h = h
-formed-more m n earlier (Compare op a b) le h = h
-formed-more m n earlier (Not a) le h = h
-formed-more m n earlier (Logic op a b) le h = h
-formed-more m n earlier (Window op i a) le h = h
-formed-more m n earlier (Between op i a b) le h = h
+formed-more m n earlier _ le h = h
 
 pub sound-more : (m n : ℕ) (nodes : List Plain) → m ≤ n → AreSound m nodes → AreSound n nodes
 sound-more m n nodes le h = record { formed = λ i node at. formed-more m n _ node le (h.formed i node at) }
@@ -176,10 +168,7 @@ leaves-less u v i left all h stands = record {
   light = h.light.1;
 }
 
--- the first of the items that are left is light, and its signals are within their limit
-pub first-light : (u : Unfolded) (i : ItemShape) (left all : List ItemShape) → Leaves u (i ∷ left) all → IsLightItem (env_now u.names) i.body
-first-light u i left all h = subst (λ env. IsLightItem env i.body) (sym h.stands.values) h.light.0
-
+-- the signals of the first of the items that are left are within their limit
 pub first-few : (u : Unfolded) (i : ItemShape) (left all : List ItemShape) → Leaves u (i ∷ left) all → first_fault all ≡ None
     → u.signals + length (body_signals i.body) ≤ MAX_SIGNALS
 first-few u i left all h faultless =

@@ -1,4 +1,4 @@
--- What scopes, names and heads stand for.
+-- The meanings of scopes, names and heads.
 
 use Rattle.std.specs.Prelude.{ℕ, ◌≡◌, ◌<◌, Bool, true, false, map, ⊤}
 use Rattle.mltl_base.specs.Tables.{Table}
@@ -59,7 +59,7 @@ head_value names (head.Set scope es) = grouped (values_of (shapes es.now) (env_i
 head_value names (head.Leaf scope e) = value_of (shape e.now) (env_in names scope)
 head_value names (head.Kept made scope e) = value_of (shape e.now) (env_in names scope)
 
--- what is no name, struct, set or picked field is an operator
+-- what isn't a name, struct, set or picked field is an operator
 abbrev pub IsHead : Head → Type 0
 IsHead (head.Leaf scope e) = is_operator (shape e.now) ≡ true
 IsHead (head.Kept made scope e) = is_operator (shape e.now) ≡ true

@@ -1,4 +1,5 @@
--- What names stand for. Names are numbered in the order of declaration, and a definition knows how many came before it.
+-- The meanings of names. Names are numbered in the order of declaration, and a definition has the number of names
+-- before it.
 
 use Rattle.std.specs.Prelude.{ℕ, suc, ◌≡◌, ◌≤◌, ◌<◌, ◌-◌, min, nat_lt, List, [], ◌∷◌, ◌++◌, Option, Some, None, fold}
 use Rattle.std.specs.Prelude.{length, map}
@@ -77,7 +78,7 @@ EntryBelow n (entry.Defined e k made) = ⊤
 pub record SignalsBelow (n : ℕ) (names : Table Declared) : Type 0 where
   pub each : (x : List ℕ) (d : Declared) → entry_of x names ≡ Some d → EntryBelow n d.entry
 
--- names are found as they stood after each number of them
+-- names are found as they were after each number of them
 pub record AreNumbered (names : Table Declared) (structs : List (List (List ℕ))) : Type 0 where
   pub found : (n : ℕ) (x : List ℕ) → env_of names n x ≡ meaning_before (envs_of names) n (entry_of x names)
   pub count : length (envs_of names) ≡ suc (length names)

@@ -38,7 +38,7 @@ fn unfold_all<'a>(alloc: Global, items: &'a [Item]) -> Result<Unfolded<'a>, Allo
     Ok(unfolded)
 }
 
-/// The outputs of a specification as nodes, operands before the nodes that use them. Only what an output asks for is
+/// Returns the outputs of a specification as nodes, operands before the nodes that use them. Only what an output uses is
 /// unfolded. Signals are numbered in the order of declaration, and an output without a label has the decimal text of
 /// its number as its name, counted from 0.
 ///

@@ -115,7 +115,7 @@ impl<'a> Names<'a> {
         }
     }
 
-    /// A node with the formula of an expression; of a value of another kind nothing is asked.
+    /// A node with the formula of an expression; any node where its value is of another kind.
     #[cycle(unfolding)]
     pub(crate) fn formula(
         &self,

@@ -1,4 +1,4 @@
-//! Items one after another: what names stand for, and the outputs.
+//! Items one after another: the meanings of names, and the outputs.
 
 ghost use Rattle.std.specs.Prelude.{◌≡◌, ◌≤◌, ◌++◌, ◌+◌, [], List as Seq, length, map, IfOk, OnOk};
 ghost use Rattle.mltl_base.specs.declared.limits.TheConstants.{MAX_SIGNALS};
@@ -89,7 +89,7 @@ impl<'a> Names<'a> {
         self.formula(nodes, at, e)
     }
 
-    /// What a definition's expression is made of nodes, where it is to be made.
+    /// The node of a definition's expression, where it is to be made now.
     fn unfold_if(
         &self,
         nodes: &mut NodeList,

@@ -1,4 +1,4 @@
-//! Names, each with what it stands for.
+//! Names, each with its meaning.
 
 ghost use Rattle.std.specs.Prelude.{◌≡◌, ◌<◌, ℕ, List as Seq, [], length, map, position, OnOk, IfOk};
 ghost use Rattle.std.specs.Str.{bytes_eq};
@@ -18,19 +18,18 @@ use mltl_base::{List, Name, NameTable};
 use std::alloc::{AllocError, Global};
 use std::marker::Model;
 
-/// What a name stands for.
+/// The meaning of a name.
 #[derive(Clone, Copy)]
 pub enum Entry<'a> {
     /// A struct: its fields, and its number.
     Struct(&'a List<FieldDecl>, usize),
     /// A signal, of kind bool or int, by its number.
     Signal(bool, u32),
-    /// The value of an expression under the first names, of which there are so many, and what it is made of nodes,
-    /// if it is.
+    /// The value of an expression under the first names, as many as this number, and its node, if it is made.
     Defined(&'a Expr, usize, Option<Made>),
 }
 
-/// What a name stands for, and how many names were declared before it.
+/// The meaning of a name, and the number of names that were declared before it.
 #[derive(Clone, Copy)]
 pub struct Declared<'a> {
     pub number: usize,
@@ -97,7 +96,7 @@ impl<'a> Names<'a> {
         self.table.len()
     }
 
-    /// What a name means to the first names, of which there are so many.
+    /// The meaning of a name to the first `before` names; none where it was declared later.
     pub fn find(&self, before: usize, name: &Name) -> Named<'a>
         ensures means { named_meaning self.now result ≡ env_of self.now before name.now }
         ensures below { (n : ℕ) → SignalsBelow n self.now → NamedBelow n result }
@@ -131,7 +130,7 @@ impl<'a> Names<'a> {
         }
     }
 
-    /// What a definition's name stands for, with what it is made of nodes, if it is: what its expression leads to.
+    /// The entry of a definition, with its node, if it is made: what its expression leads to.
     fn entry_of(
         &self,
         e: &'a Expr,
@@ -207,7 +206,7 @@ impl<'a> Names<'a> {
         Ok(Names { table, structs })
     }
 
-    /// The names with a definition, and with what it is made of nodes, if it is. A name that is known keeps its meaning.
+    /// The names with a definition and its node, if it is made. A name that is known keeps its meaning.
     pub fn with_definition(
         self,
         alloc: Global,

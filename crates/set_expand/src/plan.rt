@@ -1,8 +1,8 @@
 //! Which definitions are unfolded when they are declared.
 //!
-//! What a name stands for is unfolded within what uses it, so a chain of definitions nests as deeply as it is long. Those
-//! that would nest too deeply are unfolded by themselves before they are used, so that the stack stays small. Of which
-//! definitions that is said has no part in what comes out.
+//! The expression of a definition is unfolded within what uses its name, so a chain of definitions nests as deeply as it
+//! is long. Definitions that would nest too deeply are unfolded when they are declared, so that the stack stays small.
+//! Which ones these are doesn't change the result.
 
 use crate::heads::{deeper, is_operator};
 use c2po_ast::{Body, Expr, Item, Node};
@@ -115,7 +115,7 @@ fn levels_of_item(
     }
 }
 
-/// Whether a flag is set; one that isn't there isn't.
+/// Whether a flag is set; `false` past the end.
 pub(crate) fn is_set(flags: &[bool], i: usize) -> bool {
     match flags.get(i) {
         Some(flag) => *flag,

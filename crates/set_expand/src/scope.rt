@@ -8,9 +8,9 @@ use std::alloc::Global;
 /// The names and the variables that an expression sees, the innermost first.
 #[derive(Clone, Copy)]
 pub enum Scope<'a> {
-    /// The first names that are declared, of which there are so many.
+    /// The first names that are declared, as many as this number.
     First(usize),
-    /// A variable, which stands for an expression in a scope of its own.
+    /// A variable, which means an expression in that expression's own scope.
     Member {
         name: &'a Name,
         expr: &'a Expr,
@@ -35,7 +35,7 @@ pub enum Named<'a> {
     Struct(&'a List<FieldDecl>),
     /// A signal, of kind bool or int, by its number.
     Signal(bool, u32),
-    /// The value of an expression, and what it is made of nodes, if it is.
+    /// The value of an expression, and its node, if it is made.
     Open(Scope<'a>, &'a Expr, Option<Made>),
 }
 
