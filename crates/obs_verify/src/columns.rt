@@ -17,7 +17,7 @@ pub fn move_reads(program: &mut Program, signal_numbers: &[Option<u32>], columns
     for (i, signal_number) in signal_numbers.iter().enumerate() {
         if let Some(k) = *signal_number {
             let op = moved_to(*program.bz.get(i), columns[k as usize]);
-            let _ = program.bz.put(i, op);
+            program.bz.put(i, op);
         }
     }
 }
@@ -46,6 +46,6 @@ pub fn move_signals(signals: &mut List<StoredSignal>, columns: &[u32])
             truth: signal.truth,
             column: *column,
         };
-        let _ = signals.put(k, moved);
+        signals.put(k, moved);
     }
 }
