@@ -10,7 +10,7 @@ use Rattle.std.proofs.lemmas.Bool.{true≢false}
 use Rattle.std.proofs.lemmas.Option.{get_or_from_slice_get, slice_get_within, slice_get-get_or}
 use Rattle.mltl_base.specs.declared.operators.ArithOp as arith_op
 use Rattle.c2po_nodes.proofs.Places.{at_push}
-use Rattle.mltl_base.specs.Formula.{Core, ctrue, catom, cnot, cand, cuntil, csince, neg}
+use Rattle.mltl_base.specs.Formula.{Core, ctrue, catom, cnot, neg}
 use Rattle.core_graph.specs.declared.vertex.Vertex.{Vertex}
 use Rattle.core_graph.specs.declared.vertex.Vertex.TheVariants.{Column, Const, Neg, Arith, IsTrue, Eq, Lt, Le, True, Load, Not, And, Until, Since}
 use Rattle.core_graph.specs.declared.vertex.Operands.{Operands}
@@ -43,10 +43,6 @@ remade _ _ = True
 
 remade_is : (x : Vertex) → remade (label_of x) (operands_of x) ≡ x
 remade_is (Arith arith_op.TheVariants.Add a b) = refl
-remade_is (Arith arith_op.TheVariants.Sub a b) = refl
-remade_is (Arith arith_op.TheVariants.Mul a b) = refl
-remade_is (Arith arith_op.TheVariants.Div a b) = refl
-remade_is (Arith arith_op.TheVariants.Rem a b) = refl
 remade_is _ = refl
 
 pub one_vertex : (x y : Vertex) → label_of x ≡ label_of y → operands_of x ≡ operands_of y → x ≡ y
@@ -280,9 +276,6 @@ core_here vertices n p h = record { formula = p; has = h }
 
 pub core_kept : (old new : List Vertex) (n : ℕ) → Grows old new → IsCoreAt old n → IsCoreAt new n
 core_kept old new n g h = record { formula = h.formula; has = g.kept n (of_core h.formula) h.has }
-
-pub core_within : (vertices : List Vertex) (n : ℕ) → IsCoreAt vertices n → n < length vertices
-core_within vertices n h = h.has.within
 
 -- the operand of a negation is the negation, and another formula is negated by one more vertex
 not_case : (vertices : List Vertex) (b : ℕ) (p : Core) → b < length vertices → one (sign not_sign) (tree_at (trees vertices) b) ≡ of_core p → Has vertices b (of_core (neg p))

@@ -126,17 +126,6 @@ pub fold_closed : (roots ts : List LabelTree) → HasItsOperands ts → HasItsOp
 fold_closed [] ts c = c
 fold_closed (t ∷ roots) ts c = fold_closed roots (add_tree t ts) (tree_closed t ts c)
 
-pub fold_keeps : (roots ts : List LabelTree) (u : LabelTree) → listed same_tree u ts ≡ true → listed same_tree u (fold (λ us t. add_tree t us) ts roots) ≡ true
-fold_keeps [] ts u h = h
-fold_keeps (t ∷ roots) ts u h = fold_keeps roots (add_tree t ts) u (tree_keeps t u ts h)
-
-pub fold_has : (roots ts : List LabelTree) (i : ℕ) (u : LabelTree) → slice_get roots i ≡ Some u → listed same_tree u (fold (λ us t. add_tree t us) ts roots) ≡ true
-fold_has [] ts i u e = cc
-fold_has (t ∷ roots) ts zero u e =
-    let same : t ≡ u = cc in
-    subst (λ x. listed same_tree x (fold (λ us t. add_tree t us) (add_tree t ts) roots) ≡ true) same (fold_keeps roots (add_tree t ts) t (tree_has t ts))
-fold_has (t ∷ roots) ts (suc i) u e = fold_has roots (add_tree t ts) i u e
-
 pub completed_closed : (roots : List LabelTree) → HasItsOperands (completed roots)
 completed_closed roots = fold_closed roots [] closed_nil
 

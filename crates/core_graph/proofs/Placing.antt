@@ -94,10 +94,6 @@ is_had _ = true
 
 all_had : (x : Vertex) → is_had (label_of x) ≡ true
 all_had (Arith arith_op.TheVariants.Add a b) = refl
-all_had (Arith arith_op.TheVariants.Sub a b) = refl
-all_had (Arith arith_op.TheVariants.Mul a b) = refl
-all_had (Arith arith_op.TheVariants.Div a b) = refl
-all_had (Arith arith_op.TheVariants.Rem a b) = refl
 all_had _ = refl
 
 none_of : (vertices : List Vertex) (n : ℕ) (l : Label) (t u : LabelTree) → is_had l ≡ false → IsForest vertices → Has vertices n (two l t u) → ⊥

@@ -6,7 +6,7 @@ use Rattle.std.proofs.lemmas.List.{length-take-le, take_all}
 use Rattle.std.proofs.lemmas.Option.{same_Some, slice_get-get_or, slice_get_within}
 use Rattle.mltl_base.proofs.Unfolding.{Each, each_from_all}
 use Rattle.c2po_nodes.specs.declared.nodes.Plain.{Plain}
-use Rattle.c2po_nodes.specs.declared.nodes.Plain.TheVariants.{Truth, Flag, Number, Signal, Minus, Arith, Compare, Not, Logic, Window, Between}
+use Rattle.c2po_nodes.specs.declared.nodes.Plain.TheVariants.{Truth, Minus, Arith, Compare, Not, Logic, Window, Between}
 use Rattle.c2po_nodes.specs.declared.nodes.PlainOut.{PlainOut}
 use Rattle.c2po_nodes.specs.declared.nodes.PlainOut.TheVariants.{Formula, Contract}
 use Rattle.c2po_nodes.specs.Nodes.{Tree, number, formula, term_in, formula_in, arithmetic, comparison, connected, windowed, ranged, tree_of, trees, IsNumber, IsFormula, IsFormed, AreSound}
