@@ -56,7 +56,7 @@ KeepsStretch program rows report after =
 abbrev pub outs_after : List ℕ → Cursor → ℕ
 outs_after next_times cursor = length next_times - cursor.out
 
--- a search among so many outputs, from `first` on, takes a step for each output up to the one that it finds, at most
+-- a search among `outs` outputs, from `first` on, takes a step for each output up to the one that it finds, at most
 abbrev pub LooksOnward : ℕ → ℕ → Option (ℕ × Stretch) → ℕ → ℕ → Type 0
 LooksOnward outs first (Some (k, stretch)) before after = after + (outs - k) ≤ before + (outs - first) + 1
 LooksOnward outs first None before after = after ≤ before + (outs - first)

@@ -37,7 +37,7 @@ impl Outs {
     ghost use Rattle.contract_status.specs.Open.{ArePlaced, known_counts_of, open_of};
     ghost use Rattle.contract_status.specs.Standing.{GivesNext, StandFor};
 
-    /// The outputs of a program before the first row, with 0 for each next time. It takes all its memory at once.
+    /// The outputs of a program before the first row, with 0 for each next time. Allocates all its memory.
     pub fn make(alloc: Global, checked: &Checked) -> Result<Outs, AllocError>
         ensures start { IfOk result (λ outs. outs ≡ replicate (length checked.now.outs) 0) }
         ensures drained { IfOk result (λ outs. outs ≡ known_counts_of checked.now []) }
@@ -47,7 +47,7 @@ impl Outs {
         Ok(Outs { times })
     }
 
-    /// Stands for no rows again, with 0 for each next time, in the memory that it has.
+    /// Resets all next times to 0, as before the first row. It neither allocates nor frees.
     pub fn reset(&mut self)
         ensures start { self.new ≡ replicate (length self.old) 0 }
     {
