@@ -64,8 +64,8 @@ abbrev pub EndsBefore : ℕ → ℕ → Row → ℕ → State → Type 0
 EndsBefore size most numbers room monitor =
     (numbers ≡ []) ⊎ (room < most) ⊎ ¬ IsReady monitor (take size numbers)
 
--- The first rows of the numbers were taken, and their reports are at the front of a list; the next row wasn't. Where there
--- was room for more reports, none is left.
+-- The first rows of the numbers were taken, and a list begins with their reports; the next row wasn't taken. Where
+-- there was room for more reports, none is left.
 pub record TakesRows (style : Style) (size most : ℕ) (numbers : Row) (batch : Batch) (old new : List Told)
     (before after : State) : Type 0 where
   pub each : TakesEach style (rows_in size batch.rows numbers) (take batch.reports new) before after
