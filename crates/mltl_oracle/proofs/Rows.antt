@@ -1,7 +1,7 @@
 -- Reports are told word by word, output by output and row by row.
 
 use Rattle.std.proofs.Common.{◌≡◌, ℕ, suc, ◌+◌, ◌<◌, ◌≤◌, All, Bool, true, false, not, if◌then◌else◌, List, [], ◌∷◌, ◌++◌, map, take, drop, length, get_or, slice_get, refl, sym, ap, ap₂, ◌∙◌, arith, append_assoc, append-nil}
-use Rattle.std.proofs.lemmas.List.{take_more, take_all, drop_more, drop_all, get_or_default}
+use Rattle.std.proofs.lemmas.List.{take_more, drop_more, drop_all, get_or_default}
 use Rattle.mltl_base.specs.declared.report.Word.{Word}
 use Rattle.mltl_base.specs.declared.report.Word.TheVariants.{T}
 use Rattle.mltl_base.specs.declared.report.Style.{Style}
@@ -39,9 +39,6 @@ words_at style k t ws w b l e =
     ap (of_words style k t) (drop_more ws t w l ∙ ap (λ n. get_or ws t w ∷ drop n ws) s)
     ∙ (words_step style k t (get_or ws t w) (drop (suc t) ws)
     ∙ ap (λ (c : Bool). if c then record { out = k; time = t; word = get_or ws t w } ∷ of_words style k (suc t) (drop (suc t) ws) else of_words style k (suc t) (drop (suc t) ws)) e)
-
-pub due_start : (told : List Report) (rest : List Report) → IsDue told (told ++ rest) rest
-due_start told rest = record { whole = refl }
 
 pub due_told : (style : Style) (k t : ℕ) (ws : List Word) (w : Word) (told now due : List Report) → t < length ws → true ≡ is_told style (get_or ws t w) (drop (suc t) ws) →
     now ≡ told ++ record { out = k; time = t; word = get_or ws t w } ∷ [] → IsDue told due (of_words style k t (drop t ws)) → IsDue now due (of_words style k (t + 1) (drop (t + 1) ws))
@@ -106,18 +103,12 @@ pub rows_none : (style : Style) (outs : List Output) (rows : List Row) → [] �
 unfolding reports_after
 rows_none style outs rows = refl
 
-pub rows_end : (style : Style) (outs : List Output) (rows : List Row) (n : ℕ) (told : List Report) → n ≡ length rows → told ≡ reports style outs (take n rows) → told ≡ reports style outs rows
-rows_end style outs rows n told e h = h ∙ ap (reports style outs) (take_all n rows (omega arith))
-
 -- the next word
 pub goes_next : (ws : List Word) (t : ℕ) (v n w : Word) (b : Bool) → t + 1 < length ws → v ≡ get_or ws t v → n ≡ get_or ws (t + 1) n → b ≡ same_word v n → b ≡ goes_on (get_or ws t w) (drop (suc t) ws)
 goes_next ws t v n w b l e f g =
     let s : t + 1 ≡ suc t = omega arith in
     let d : get_or ws t w ≡ v = get_or_default ws t w v (omega arith) ∙ sym e in
     g ∙ (ap₂ same_word (sym d) f ∙ ap (goes_on (get_or ws t w)) (sym (drop_more ws (t + 1) n l) ∙ ap (λ m. drop m ws) s))
-
-pub goes_last : (ws : List Word) (t : ℕ) (w : Word) → length ws ≤ t + 1 → false ≡ goes_on (get_or ws t w) (drop (suc t) ws)
-goes_last ws t w l = ap (goes_on (get_or ws t w)) (sym (drop_all (suc t) ws (omega arith)))
 
 -- a word that is told, or goes on
 pub due_step : (style : Style) (k t : ℕ) (ws : List Word) (w : Word) (told now due : List Report) (b : Bool) → t < length ws → w ≡ get_or ws t w → b ≡ is_told style (get_or ws t w) (drop (suc t) ws) →

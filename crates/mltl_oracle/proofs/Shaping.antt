@@ -1,8 +1,8 @@
 -- The known verdicts of a tree, by the operator at its top.
 
-use Rattle.std.proofs.Common.{◌≡◌, ℕ, zero, suc, ◌+◌, ◌<◌, ◌≤◌, ◌⊎◌, inl, inr, Bool, true, false, Option, Some, None, List, [], ◌∷◌, ◌++◌, map, take, length, slice_get, get_or, IfSome, refl, sym, ap, subst, ◌∙◌, arith, Result, Ok, Err, IfOk, replicate, All, get_or-take, length-take}
+use Rattle.std.proofs.Common.{◌≡◌, ℕ, zero, suc, ◌+◌, ◌<◌, ◌≤◌, ◌⊎◌, inl, inr, Bool, true, false, Option, Some, None, List, [], ◌∷◌, ◌++◌, map, take, length, slice_get, IfSome, refl, sym, ap, subst, ◌∙◌, arith, Result, Ok, Err, IfOk, replicate, All, get_or-take, length-take}
 use Rattle.std.proofs.lemmas.Bool.{cases_lt}
-use Rattle.std.proofs.lemmas.List.{take_more, take_all, map-append, length_push}
+use Rattle.std.proofs.lemmas.List.{length_push}
 use Rattle.mltl_base.specs.declared.interval.Interval.{Interval}
 use Rattle.mltl_base.specs.declared.operators.LogicOp as logic_op
 use Rattle.mltl_base.specs.declared.operators.WindowOp as window_op
@@ -59,14 +59,6 @@ right_value rows p t o e = go o (subst (λ (x : Option Bool). Below x (Some (sat
     go None h = tt
     go (Some v) h = cc
 
--- the rows that a loop has passed
-pub mapped_more : {Y : Type 0} (f : Row → Y) (rows : List Row) (i : ℕ) (x : Row) (ys : List Y) (y : Y) → i < length rows → x ≡ get_or rows i x → ys ≡ map f (take i rows) → y ≡ f x → ys ++ y ∷ [] ≡ map f (take (i + 1) rows)
-mapped_more f rows i x ys y l e h g =
-    rw (take_more rows i x l, ← e, map-append f (take i rows) (x ∷ []), h, g) refl
-
-pub mapped_all : {Y : Type 0} (f : Row → Y) (rows : List Row) (i : ℕ) (ys : List Y) → length rows ≤ i → ys ≡ map f (take i rows) → ys ≡ map f rows
-mapped_all f rows i ys l h = h ∙ ap (map f) (take_all i rows l)
-
 -- the values that a loop has found: one at each time before t
 pub record FoundUpTo {X : Type 0} (k : ℕ → Option X) (t : ℕ) (vs : List X) : Type 0 where
   pub count : length vs ≡ t
@@ -81,9 +73,6 @@ push_last : {X : Type 0} (vs : List X) (v : X) (s : ℕ) → s ≡ length vs →
 push_last [] v s e = rw e refl
 push_last (x ∷ vs) v zero e = absurd (omega arith)
 push_last (x ∷ vs) v (suc s) e = push_last vs v s (omega arith)
-
-pub found_none : {X : Type 0} (k : ℕ → Option X) → FoundUpTo k 0 []
-found_none k = record { count = refl; values = λ s l. absurd (omega arith) }
 
 pub found_more : {X : Type 0} (k : ℕ → Option X) (t : ℕ) (vs ws : List X) (v : X) → FoundUpTo k t vs → Some v ≡ k t → ws ≡ vs ++ v ∷ [] → FoundUpTo k (t + 1) ws
 found_more k t vs ws v h e q =

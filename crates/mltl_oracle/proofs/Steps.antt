@@ -10,9 +10,6 @@ pub record SomeSo (lo j : ℕ) (f : ℕ → Option Bool) (x : Option Bool) : Typ
 pub record EverySo (lo j : ℕ) (f : ℕ → Option Bool) (x : Option Bool) : Type 0 where
   pub is : x ≡ k_every_in lo j f
 
-none_left : (lo j : ℕ) → j ≤ lo → j - lo ≡ 0
-none_left lo j l = omega arith
-
 pub some_start : (lo : ℕ) (f : ℕ → Option Bool) → SomeSo lo lo f (Some false)
 unfolding k_some_below
 some_start lo f = record { is = let e : lo - lo ≡ 0 = omega arith in rw e refl }
