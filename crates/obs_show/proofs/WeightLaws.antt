@@ -185,9 +185,6 @@ module _ (es : List Expression) where
     pub long : i ≡ length before
     pub are : weights ≡ map told_core before
 
-  pub ft_none : (ops : List ft.FtOp) → FtWeighed ops 0 []
-  ft_none ops = record { before = []; rest = refl; long = refl; are = refl }
-
   pub ft_more : (ops : List ft.FtOp) (i : ℕ) (weights more : List ℕ) (d : ft.FtOp) (n : ℕ) → FtWeighed ops i weights → i < length ops → IsAfterOperands i (slice_index_or ops i d)
       → ((k : ℕ) → slice_index_or ops i d ≡ ft.TheVariants.Load k → Loads k) → n ≡ ft_weight (map told es) weights (slice_index_or ops i d) → more ≡ weights ++ n ∷ [] → FtWeighed ops (i + 1) more
   unfolding formulas_after
@@ -210,9 +207,6 @@ module _ (es : List Expression) where
     pub rest : past_formulas_after held before (drop i ops) ≡ past_formulas held ops
     pub long : i ≡ length before
     pub are : weights ≡ map told_core before
-
-  pub pt_none : (ops : List pt.PtOp) → PtWeighed ops 0 []
-  pt_none ops = record { before = []; rest = refl; long = refl; are = refl }
 
   pub pt_more : (ops : List pt.PtOp) (i : ℕ) (weights more : List ℕ) (d : pt.PtOp) (n : ℕ) → PtWeighed ops i weights → i < length ops → IsAfterPastOperands i (slice_index_or ops i d)
       → ((k : ℕ) → slice_index_or ops i d ≡ pt.TheVariants.Load k → Loads k) → n ≡ pt_weight (map told es) weights (slice_index_or ops i d) → more ≡ weights ++ n ∷ [] → PtWeighed ops (i + 1) more
