@@ -59,7 +59,7 @@ struct Counter {
 
     // From the question whether the row can be taken to its last report.
     Cost take(const std::vector<int64_t> &fields) {
-        uint64_t steps = (rows ? 0 : program.outputs.size()) + 2 * program.bz.size() + program.width;
+        uint64_t steps = (rows ? 0 : program.outputs.size()) + 2 * program.bz.size();
         row.take(fields);
         for (size_t k = 0; k < program.ft.size(); k++) future(k, steps);
         past.take(row, rows++);

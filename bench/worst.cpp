@@ -3,7 +3,7 @@
 //     worst PROGRAM TRIES     of a search over logs
 //     worst PROGRAM TRACE     of the rows of a trace
 //
-// On the error output it prints the steps of this row, the columns, the reports, and the steps to find these.
+// On the error output it prints the steps of this row, the reports, and the steps to find these.
 //
 // A log gives each column segments of a length that the program's windows suggest, in which it is true, false or alternates.
 // The search changes one column's segments at a time and keeps what takes more, a report counted as much as three steps more.
@@ -167,8 +167,8 @@ void print_row(const std::vector<int64_t> &numbers) {
     std::printf("\n");
 }
 
-void print_cost(const Program &program, const Cost &cost) {
-    std::fprintf(stderr, "%llu %u %llu %llu\n", (unsigned long long)cost.steps, program.width, (unsigned long long)cost.reports,
+void print_cost(const Cost &cost) {
+    std::fprintf(stderr, "%llu %llu %llu\n", (unsigned long long)cost.steps, (unsigned long long)cost.reports,
                  (unsigned long long)cost.telling);
 }
 
@@ -183,7 +183,7 @@ void search_logs(const Program &program, long tries) {
         if (found.weight() >= most.weight()) most = found, best = log;
     }
     search.run(best, most.row + 1, [](const std::vector<int64_t> &numbers, uint64_t) { print_row(numbers); });
-    print_cost(program, most.cost);
+    print_cost(most.cost);
 }
 
 void search_trace(const Program &program, const char *path) {
@@ -194,7 +194,7 @@ void search_trace(const Program &program, const char *path) {
     for (std::vector<int64_t> fields(program.width); std::getline(file, line);)
         if (read_row(line.data(), line.data() + line.size(), fields)) finder.take(fields), rows.push_back(fields);
     for (uint64_t k = 0; k <= finder.found.row && k < rows.size(); k++) print_row(rows[k]);
-    print_cost(program, finder.found.cost);
+    print_cost(finder.found.cost);
 }
 
 }

@@ -330,11 +330,11 @@ static size_t verifying_of(const struct r2u2_counts *counts) {
            grown_for(4U, counts->pt);
 }
 
-/* Loading: the monitor, what runs, and for each column how it is read and two numbers. */
+/* Loading: the monitor, what runs, and for each column how it is read and a number. */
 static size_t loading_of(const struct r2u2_counts *counts) {
-    return block_for(512U, 1U) + block_for(8U, counts->bz) + block_for(72U, counts->ft) + block_for(16U, counts->slots) +
+    return block_for(488U, 1U) + block_for(8U, counts->bz) + block_for(72U, counts->ft) + block_for(16U, counts->slots) +
            block_for(40U, counts->pt) + block_for(16U, counts->boxes) + block_for(8U, counts->outs) +
-           block_for(1U, counts->width) + (2U * block_for(8U, counts->width));
+           block_for(1U, counts->width) + block_for(8U, counts->width);
 }
 
 size_t r2u2_open_bytes(const uint8_t *program, size_t count) {

@@ -537,7 +537,7 @@ static void bytes_that_are_told(void) {
     r2u2_close(&it);
     CHECK(held == 0 && held_bytes == 0);
     CHECK(r2u2_open_under(&it, grant.bytes, grant.count, "#grant,other,request", 20, &fault) == R2U2_DONE);
-    CHECK(held_bytes == (long)bytes + 17);
+    CHECK(held_bytes == (long)bytes + 9);
     r2u2_close(&it);
     CHECK(r2u2_checked_bytes(grant.bytes, grant.count, NULL, NULL) == R2U2_BAD_ARGUMENT);
     CHECK(r2u2_checked_bytes(NULL, 0, &bytes, NULL) == R2U2_REFUSED && held == 0);

@@ -150,13 +150,13 @@ uint32_t r2u2_open_checked(struct r2u2 *it, const uint8_t *program, size_t count
                            struct r2u2_fault *fault);
 
 /* The most blocks that an open monitor holds. */
-#define R2U2_BLOCKS 20u
+#define R2U2_BLOCKS 19u
 
 /* Returns in `bytes` how many bytes a monitor of this program holds from its opening on, in all its blocks together: the sum
  * of the sizes that it allocated. An allocator adds bytes to each of at most R2U2_BLOCKS blocks; arena.c adds 16 to a
  * block, and what makes its size a multiple of 8. Opening holds other blocks for a while, and so does this call;
  * r2u2_open_bytes of arena.h returns how many bytes suffice. Each column that a header has beyond those of the program
- * takes 17 bytes more.
+ * takes 9 bytes more.
  *
  * R2U2_DONE: `bytes` has it. R2U2_REFUSED: `fault` has the first fault of the program. R2U2_NO_MEMORY. */
 uint32_t r2u2_bytes(const uint8_t *program, size_t count, uint64_t *bytes, struct r2u2_fault *fault);

@@ -111,6 +111,7 @@ pub extern "C" fn r2u2_row(it: &mut R2u2, alloc: Global, fields: &[i64], why: &m
 }
 
 /// Tells whether a row was taken, and why not.
+#[inline(always)]
 pub(crate) fn tell_taken(taken: Result<(), RowFault>, why: &mut RowWhy) -> u32
     ensures done { IfOk taken (λ _. (result ≡ DONE) × (why.new ≡ why.old)) }
     ensures fault { IfErr taken (λ fault. (why.new ≡ row_cause fault) × (result ≡ why.new.why)) }
@@ -137,17 +138,17 @@ pub extern "C" fn r2u2_next(it: &mut R2u2, alloc: Global, runs: u32, report: &mu
 {
     match it.handle.take(alloc) {
         None => NOT_OPEN,
-        Some(mut monitor) => {
-            let next = next_of(&mut monitor, runs);
-            it.handle.put(monitor);
-            match next {
-                None => NO_REPORT,
-                Some(next) => {
-                    *report = Told::of(next);
-                    DONE
-                }
+        Some(mut monitor) => match next_of(&mut monitor, runs) {
+            None => {
+                it.handle.put(monitor);
+                NO_REPORT
             }
-        }
+            Some(next) => {
+                it.handle.put(monitor);
+                *report = Told::of(next);
+                DONE
+            }
+        },
     }
 }
 

@@ -27,6 +27,12 @@ impl Model for Handle {
 // What it owns says the same to every thread, so one thread may open it and another take rows.
 unsafe impl Send for Handle {}
 
+/// Frees a monitor. It stays out of line, so that a call that puts one back in an empty handle is short.
+#[inline(never)]
+fn release(monitor: Box<Monitor>) {
+    drop(monitor);
+}
+
 impl Handle {
     pub(crate) fn empty() -> Handle
         ensures { result.value ≡ None }
@@ -81,7 +87,9 @@ impl Handle {
     {
         let alloc = *Box::allocator(&monitor);
         let old = mem::replace(self, Handle::with(monitor));
-        drop(old.into_box(alloc));
+        if let Some(old) = old.into_box(alloc) {
+            release(old);
+        }
     }
 
     /// A monitor, which it owns from now on.

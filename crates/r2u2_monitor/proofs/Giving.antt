@@ -5,6 +5,7 @@ use Rattle.mltl_base.specs.declared.program.Program.{Program}
 use Rattle.mltl_base.specs.declared.report.Report.{Report}
 use Rattle.mltl_base.specs.declared.report.Style.{Style}
 use Rattle.mltl_base.specs.Atoms.{Row}
+use Rattle.booleanizer.specs.Evaluation.{numbers_on}
 use Rattle.r2u2_monitor.specs.declared.running.Running.{Running}
 use Rattle.r2u2_monitor.specs.declared.state.State.{State}
 use Rattle.r2u2_monitor.specs.Bursts.{OpensFew, most_reports}
@@ -53,7 +54,9 @@ sound_after_many style told before after sound many =
       some = (sound.some.0, record { taken = many.stands sound.some.0 sound.some.1.taken; last = sound.some.1.last });
       early = omega (arith, sound.early, ap (λ (r : Running). r.taken) many.moved);
       numbers = ap (λ (r : Running). length r.bz) many.moved ∙ sound.numbers ∙ ap (λ (p : Program). length p.bz) same;
-      last_wide = sound.last_wide ∙ ap (λ (p : Program). p.width) same;
+      seen = λ begun.
+          ap (λ (r : Running). r.bz) many.moved ∙ sound.seen (omega (arith, begun, ap (λ (r : Running). r.taken) many.moved))
+          ∙ ap (λ (p : Program). numbers_on before.last p.bz) same;
       read_wide = sound.read_wide ∙ ap (λ (p : Program). p.width) same;
     }
 

@@ -26,7 +26,7 @@ holds_what_it_takes monitor sound =
     let best : length (best_delays program.ft) ≡ length program.ft = omega (arith, length-numbered_after best_of [] program.ft) in
     let worst : length (worst_delays program.ft) ≡ length program.ft = omega (arith, length-numbered_after worst_of [] program.ft) in
     let read : length (signals_read program) ≡ length program.bz = length-map program.bz (signal_read program.signals) in
-    rw (best, worst, read, length-readings_of program, sound.numbers, stand.future.count, stand.future.total, stand.past.count, stand.past.total, stand.placed.count, sound.last_wide, sound.read_wide)
+    rw (best, worst, read, length-readings_of program, sound.numbers, stand.future.count, stand.future.total, stand.past.count, stand.past.total, stand.placed.count, sound.read_wide)
     (omega arith)
 
 -- the fields of a checked program hold what is counted of it

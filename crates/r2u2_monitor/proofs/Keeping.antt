@@ -12,6 +12,7 @@ use Rattle.mltl_base.specs.Queues.{queue_lengths, reported, slot_count}
 use Rattle.mltl_base.specs.Programs.{IsFit, outputs}
 use Rattle.mltl_base.specs.Reports.{Output, delay, words}
 use Rattle.mltl_base.proofs.Words.{words_in_time}
+use Rattle.booleanizer.specs.Evaluation.{numbers_on}
 use Rattle.obs_verify.proofs.RunLaws.{runs_future, runs_past}
 use Rattle.ft_engine.specs.declared.Ft.{Ft}
 use Rattle.ft_engine.specs.Standing.{instruction_count, lowest_at, slots_at, queue_width}
@@ -29,20 +30,20 @@ use Rattle.r2u2_monitor.proofs.Taking.{drained_places}
 pub stands_at_start : (monitor : State) → HasTaken monitor.running [] → Stands monitor []
 stands_at_start monitor taken = record { taken = taken; last = λ before row is. absurd (none_before before row is) }
 
-pub sound_at_start : (monitor : State) → HasTaken monitor.running [] → monitor.running.taken ≡ 0 → length monitor.running.bz ≡ length (program_of monitor).bz → length (last_of monitor) ≡ (program_of monitor).width → length (read_of monitor) ≡ (program_of monitor).width
+pub sound_at_start : (monitor : State) → HasTaken monitor.running [] → monitor.running.taken ≡ 0 → length monitor.running.bz ≡ length (program_of monitor).bz → length (read_of monitor) ≡ (program_of monitor).width
     → MonitorIsSound monitor
-sound_at_start monitor taken none numbers wide wide' = record {
+sound_at_start monitor taken none numbers wide = record {
   some = ([], stands_at_start monitor taken);
   early = omega (arith, none);
   numbers = numbers;
-  last_wide = wide;
-  read_wide = wide';
+  seen = λ begun. absurd (omega (arith, none, begun));
+  read_wide = wide;
 }
 
 -- a sound monitor that takes a row is sound
 pub sound_after : (before after : State) (row : Row) → MonitorIsSound before → running.EnginesTakeRow row before.running after.running → before.running.taken < 2 ^ 40 → last_of after ≡ row
-    → length after.running.bz ≡ length (program_of before).bz → length (last_of after) ≡ (program_of before).width → length (read_of after) ≡ (program_of before).width → MonitorIsSound after
-sound_after before after row sound takes early last numbers wide wide' = record {
+    → length after.running.bz ≡ length (program_of before).bz → length (read_of after) ≡ (program_of before).width → MonitorIsSound after
+sound_after before after row sound takes early last numbers wide = record {
   some = (
     sound.some.0 ++ row ∷ [],
     record {
@@ -52,8 +53,10 @@ sound_after before after row sound takes early last numbers wide wide' = record 
   );
   early = omega (arith, takes.taken, early);
   numbers = numbers ∙ ap (λ (p : Program). length p.bz) (sym takes.program);
-  last_wide = wide ∙ ap (λ (p : Program). p.width) (sym takes.program);
-  read_wide = wide' ∙ ap (λ (p : Program). p.width) (sym takes.program);
+  seen = λ _.
+      takes.seen ∙ ap (λ (r : Row). numbers_on r (program_of before).bz) (sym last)
+      ∙ ap (λ (p : Program). numbers_on (last_of after) p.bz) (sym takes.program);
+  read_wide = wide ∙ ap (λ (p : Program). p.width) (sym takes.program);
 }
 
 pub same_stands : (before after : State) (rows : List Row) → IsSame before after → Stands before rows → Stands after rows

@@ -52,6 +52,7 @@ takes_row running row numbers ft pt drained early fit given ahead ahead' = recor
       ap (λ (next_times : List ℕ). status.open_of style running.checked (rows ++ row ∷ []) next_times) (drained_places running rows taken drained)
       ∙ open_after_row style 0 (outputs running.checked) rows row;
   told = refl;
+  seen = given;
 }
 
 -- before the first row nothing is open

@@ -42,7 +42,7 @@ checked_bytes program =
     + READER_BYTES * room (length program.bz)
 
 -- what runs: a number for each instruction of the Booleanizer, the queues with their slots, the past-time instructions
--- with their boxes, a time for each output; and for each column how it is read, and its number in each of two rows
+-- with their boxes, a time for each output; and for each column how it is read, and its number in a row that is read
 abbrev pub running_bytes : Program → ℕ
 running_bytes program =
     NUMBER_BYTES * length program.bz
@@ -52,7 +52,6 @@ running_bytes program =
     + SPAN_BYTES * sum program.sizes.pt
     + TIME_BYTES * length program.outs
     + READING_BYTES * program.width
-    + NUMBER_BYTES * program.width
     + NUMBER_BYTES * program.width
 
 -- all that a monitor of the program takes
@@ -117,11 +116,10 @@ bytes_of_running running =
     + bytes_of_past pt
     + TIME_BYTES * length next_times
 
--- a monitor, which contracts see without how its columns are read
+-- a monitor, which contracts see without how its columns are read; no bytes hold the row that was taken last
 abbrev pub bytes_of : State → ℕ
 bytes_of monitor =
     let record { running = running; last = last; read = read } = monitor in
     bytes_of_running running
     + READING_BYTES * length (readings_of running.checked)
-    + NUMBER_BYTES * length last
     + NUMBER_BYTES * length read

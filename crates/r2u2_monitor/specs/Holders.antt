@@ -44,11 +44,10 @@ bytes_in_readings readings =
     let record { columns = columns } = readings in
     READING_BYTES * length columns
 
--- a monitor
+-- a monitor; the row that was taken last is for contracts alone
 abbrev pub bytes_in_monitor : MonitorFields → ℕ
 bytes_in_monitor monitor =
     let record { running = running; last = last; read = read; readings = readings; cursor = cursor } = monitor in
     bytes_of_running running
-    + NUMBER_BYTES * length last
     + NUMBER_BYTES * length read
     + READING_BYTES * length readings

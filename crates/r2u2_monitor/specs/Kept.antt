@@ -9,7 +9,7 @@ use Rattle.r2u2_monitor.specs.Running.{ResumesAt}
 
 -- what contracts see of them
 abbrev pub state_of : MonitorFields → State
-state_of monitor = record { running = monitor.running; last = monitor.last; read = monitor.read }
+state_of monitor = record { running = monitor.running; last = monitor.last.numbers; read = monitor.read }
 
 -- a sound monitor, the cursor at which its search goes on, and how its program reads each column
 pub record IsKept (monitor : MonitorFields) : Type 0 where

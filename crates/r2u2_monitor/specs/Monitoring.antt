@@ -12,6 +12,7 @@ use Rattle.mltl_base.specs.Atoms.{Row}
 use Rattle.mltl_base.specs.Programs.{outputs}
 use Rattle.mltl_base.specs.Reports.{Output, of_row, words}
 use Rattle.mltl_base.specs.Settled.{IsPrefix}
+use Rattle.booleanizer.specs.Evaluation.{numbers_on}
 use Rattle.ft_engine.specs.Standing.{instruction_count, slot_total, slots_at}
 use Rattle.pt_boxes.specs.Standing.{room_total}
 use Rattle.r2u2_monitor.specs.declared.state.State.{State}
@@ -124,10 +125,11 @@ KeepsKnown row before after =
     → slice_get (outputs (program_of after)) k ≡ Some o
     → GoesOnPast (words rows o) (words (rows ++ row ∷ []) o) (slice_index (places_of after) k)
 
--- what holds of each monitor: it represents some rows, at most MAX_MISSION of them, and has room for a row
+-- what holds of each monitor: it represents some rows, at most MAX_MISSION of them, its Booleanizer has the numbers of
+-- the last one, and it has room for a row
 pub record MonitorIsSound (monitor : State) : Type 0 where
   pub some : (rows : List Row) × Stands monitor rows
   pub early : taken_by monitor ≤ MAX_MISSION
   pub numbers : length monitor.running.bz ≡ length (program_of monitor).bz
-  pub last_wide : length (last_of monitor) ≡ (program_of monitor).width
+  pub seen : 0 < taken_by monitor → monitor.running.bz ≡ numbers_on (last_of monitor) (program_of monitor).bz
   pub read_wide : length (read_of monitor) ≡ (program_of monitor).width

@@ -9,6 +9,7 @@ use Rattle.mltl_base.specs.Programs.{IsFit, outputs}
 use Rattle.mltl_base.specs.Reports.{of_row}
 use Rattle.obs_verify.specs.Layout.{HasLayout}
 use Rattle.obs_verify.specs.WellFormed.{IsWellFormed}
+use Rattle.booleanizer.specs.Evaluation.{numbers_on}
 use Rattle.contract_status.specs.declared.cursor.Cursor.{Cursor}
 use Rattle.contract_status.specs.Cursors.{FitsCursor}
 use Rattle.contract_status.specs.Open as status
@@ -64,7 +65,8 @@ pub record YieldsNext (style : Style) (result : Option Report) (before after : R
   pub none : IsNone result → after ≡ before
   pub given : IfSome result (λ report. Yields report before after)
 
--- one more row was taken, and all reports that it brings are open; no next time has moved
+-- One more row was taken, whose numbers the Booleanizer has, and all reports that it brings are open. No next time has
+-- moved.
 pub record EnginesTakeRow (row : Row) (before after : Running) : Type 0 where
   pub program : after.checked ≡ before.checked
   pub taken : after.taken ≡ before.taken + 1
@@ -72,6 +74,7 @@ pub record EnginesTakeRow (row : Row) (before after : Running) : Type 0 where
   pub opens : (style : Style) (rows : List Row) → HasTaken before rows
       → open_by style after (rows ++ row ∷ []) ≡ of_row style 0 (outputs before.checked) rows row
   pub told : after.outs ≡ before.outs
+  pub seen : after.bz ≡ numbers_on row before.checked.bz
 
 -- how many outputs a search from the cursor on may still look at
 abbrev pub outs_left : Running → Cursor → ℕ

@@ -38,7 +38,7 @@ pub const TIME_BYTES: usize = 8;
 /// The bytes of how a column is read.
 pub const READING_BYTES: usize = 1;
 /// The bytes of a monitor itself, wherever its caller puts it.
-pub const MONITOR_BYTES: usize = 512;
+pub const MONITOR_BYTES: usize = 488;
 
 const _: () = prove!(size_of::<BzOp>() == BZ_OP_BYTES);
 
@@ -92,15 +92,15 @@ fn checked_bytes(program: &Program) -> u64
         + list_bytes(READER_BYTES, program.bz.len())
 }
 
-/// The bytes of how columns are read, and of two rows.
+/// The bytes of how columns are read, and of a row.
 fn column_bytes(width: u32) -> u64
-    ensures bytes { result ≡ READING_BYTES * width + NUMBER_BYTES * width + NUMBER_BYTES * width }
+    ensures bytes { result ≡ READING_BYTES * width + NUMBER_BYTES * width }
     ensures few { result < 2 ^ 37 }
 {
-    (READING_BYTES + 2 * NUMBER_BYTES) as u64 * u64::from(width)
+    (READING_BYTES + NUMBER_BYTES) as u64 * u64::from(width)
 }
 
-/// The bytes of what runs and of the rows.
+/// The bytes of what runs and of the columns.
 fn running_bytes(program: &Program) -> u64
     requires layout { HasLayout program.now }
     requires future { RunsFuture program.now }

@@ -6,10 +6,11 @@
 
 mod bursts;
 pub mod bytes;
+mod last_row;
 pub mod laws;
 mod monitor;
 mod queries;
-mod row_buffers;
+mod row_buffer;
 mod row_fault;
 mod running;
 mod state;

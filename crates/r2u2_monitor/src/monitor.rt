@@ -1,6 +1,7 @@
 //! The monitor.
 
-use crate::row_buffers::{copy_row, row_buffers};
+use crate::last_row::LastRow;
+use crate::row_buffer::row_buffer;
 use crate::row_fault::RowFault;
 use crate::running::Running;
 use crate::unfit::unfit_column;
@@ -13,7 +14,6 @@ use mltl_base::{Report, Style};
 use obs_verify::Checked;
 use std::alloc::{AllocError, Global};
 use std::marker::{Brand, Model};
-use std::mem;
 use std::sync::ledger::{Blank, Ledger};
 use trace_feed::{Readings, RowAnswer, row_fields_by};
 
@@ -22,8 +22,8 @@ use trace_feed::{Readings, RowAnswer, row_fields_by};
 #[derive(Drop)]
 pub struct Monitor {
     running: Running,
-    /// The row that was taken last.
-    last: Fixed<i64>,
+    /// The row that was taken last, which contracts alone see.
+    last: LastRow,
     /// Room for a row that is read and isn't taken yet.
     read: Fixed<i64>,
     /// How the program reads each column.
@@ -74,7 +74,8 @@ impl Monitor {
         ensures drained { IfOk result IsDrained }
         ensures bytes { IfOk result (λ monitor. bytes_of monitor ≡ monitor_bytes checked) }
     {
-        let (last, read, readings) = row_buffers(alloc, &checked)?;
+        let (read, readings) = row_buffer(alloc, &checked)?;
+        let last = LastRow::of(read.as_slice());
         let running = Running::load(alloc, checked)?;
         Ok(Monitor {
             running,
@@ -114,6 +115,7 @@ impl Monitor {
 
     /// Takes the next row, with one number for each column, if it is valid and the monitor is ready for it. Otherwise
     /// nothing changes, and the first cause is returned. It does not allocate.
+    #[inline(always)]
     pub fn take(&mut self, row: &[i64]) -> Result<(), RowFault>
         ensures takes { OnOk result (TakesRow row.now self.old self.new) }
         ensures few { OnOk result (OpensFew row.now self.old self.new) }
@@ -203,9 +205,9 @@ impl Monitor {
         unfit_column(&self.running.checked, &self.readings, row, steps)
     }
 
-    /// Takes the next row, of one number for each column. Its steps are the columns, the instructions of the Booleanizer, and
-    /// the reads and writes of queues and boxes. It brings at most as many reports as `most_reports` says, and what was known
-    /// before is a prefix of what is known after it.
+    /// Takes the next row, of one number for each column. It looks at the columns that the program reads alone, and copies
+    /// none. Its steps are the instructions of the Booleanizer, and the reads and writes of queues and boxes. It brings at most
+    /// as many reports as `most_reports` says, and what was known before is a prefix of what is known after it.
     pub fn advance<L: Ledger>(&mut self, fields: &[i64], steps: &mut Steps<L>)
         requires drained { IsDrained self.old }
         requires early { taken_by self.old < MAX_MISSION }
@@ -213,11 +215,10 @@ impl Monitor {
         ensures takes { TakesRow fields.now self.old self.new }
         ensures few { OpensFew fields.now self.old self.new }
         ensures known { KeepsKnown fields.now self.old self.new }
-        ensures counted { steps.new
-            ≤ steps.old + ((program_of self.old).width + running_work (program_of self.old)) }
+        ensures counted { steps.new ≤ steps.old + running_work (program_of self.old) }
     {
-        copy_row(fields, self.last.as_mut_slice(), steps);
         self.running.take(fields, steps);
+        self.last = LastRow::of(fields);
         self.cursor = Cursor::start();
     }
 
@@ -251,7 +252,7 @@ impl Monitor {
         )
     }
 
-    /// Takes the last row once more. A row that was read stays.
+    /// Takes the last row once more, by the numbers that the Booleanizer has of it. A row that was read stays.
     pub fn repeat_last<L: Ledger>(&mut self, steps: &mut Steps<L>)
         requires begun { 0 < taken_by self.old }
         requires drained { IsDrained self.old }
@@ -260,7 +261,7 @@ impl Monitor {
         ensures read { read_of self.new ≡ read_of self.old }
         ensures counted { steps.new ≤ steps.old + running_work (program_of self.old) }
     {
-        self.running.take(self.last.as_slice(), steps);
+        self.running.repeat(&self.last, steps);
         self.cursor = Cursor::start();
     }
 
@@ -272,8 +273,9 @@ impl Monitor {
         ensures takes { TakesRow (read_of self.old) self.old self.new }
         ensures counted { steps.new ≤ steps.old + running_work (program_of self.old) }
     {
-        mem::swap(&mut self.last, &mut self.read);
-        self.running.take(self.last.as_slice(), steps);
+        let row = self.read.as_slice();
+        self.running.take(row, steps);
+        self.last = LastRow::of(row);
         self.cursor = Cursor::start();
     }
 

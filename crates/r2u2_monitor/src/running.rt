@@ -4,6 +4,7 @@ ghost use Rattle.std.specs.Prelude.{◌≡◌, [], length, IfOk};
 ghost use Rattle.contract_status.specs.Open.{known_counts_of};
 ghost use Rattle.contract_status.specs.Standing.{StandFor};
 
+use crate::last_row::LastRow;
 use booleanizer::Bz;
 use contract_status::{Cursor, Outs};
 use ft_engine::Ft;
@@ -44,6 +45,7 @@ impl Running {
     ghost use Rattle.mltl_base.specs.declared.report.Style.{Style as Form};
     ghost use Rattle.mltl_base.specs.Atoms.{Row};
     ghost use Rattle.mltl_base.specs.Programs.{IsFit};
+    ghost use Rattle.booleanizer.specs.Evaluation.{numbers_on};
     ghost use Rattle.r2u2_monitor.specs.Running.{EnginesTakeRow, HasTaken, IsDrained, ResumesAt, WritesFront, YieldsMany, YieldsNext, open_by, outs_left};
     ghost use Rattle.r2u2_monitor.specs.Work.{running_work};
 
@@ -94,6 +96,22 @@ impl Running {
         ensures counted { steps.new ≤ steps.old + running_work self.old.checked }
     {
         self.bz.row(&self.checked, fields, steps);
+        self.ft.row(&self.checked, &self.bz, steps);
+        self.pt.row(&self.checked, &self.bz, steps);
+        self.taken += 1;
+    }
+
+    /// Takes the last row once more. The Booleanizer has its numbers, so no column is looked at.
+    pub fn repeat<L: Ledger>(&mut self, last: &LastRow, steps: &mut Steps<L>)
+        requires some { (rows : List Row) × HasTaken self.old rows }
+        requires drained { IsDrained self.old }
+        requires early { self.old.taken < MAX_MISSION }
+        requires seen { self.old.bz ≡ numbers_on last.now.numbers self.old.checked.bz }
+        requires fit { IsFit self.old.checked last.now.numbers }
+        ensures takes { EnginesTakeRow last.now.numbers self.old self.new }
+        ensures numbers { self.new.bz ≡ self.old.bz }
+        ensures counted { steps.new ≤ steps.old + running_work self.old.checked }
+    {
         self.ft.row(&self.checked, &self.bz, steps);
         self.pt.row(&self.checked, &self.bz, steps);
         self.taken += 1;

@@ -14,7 +14,7 @@ invariant_of-self c =
     let numbers = c.reset.ensures.numbers ∙ sound.numbers ∙ ap (λ (p : Program). length p.bz) same in
     let width = ap (λ (p : Program). p.width) same in
     record {
-      sound = sound_at_start _ c.reset.ensures.stands c.reset.ensures.taken numbers (sound.last_wide ∙ width) (sound.read_wide ∙ width);
+      sound = sound_at_start _ c.reset.ensures.stands c.reset.ensures.taken numbers (sound.read_wide ∙ width);
       resumes = λ rows future past count known. c.start-self-inside.ensures c.reset.new.self.checked rows c.reset.new.self.outs;
       readings = c.self.invariant.readings ∙ ap readings_of same;
     }

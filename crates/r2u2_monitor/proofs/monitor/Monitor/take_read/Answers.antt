@@ -1,4 +1,4 @@
-use Rattle.std.proofs.Common.{◌<◌, ◌^◌, length, ap, refl, subst, sym, ◌∙◌}
+use Rattle.std.proofs.Common.{◌<◌, ◌^◌, ap, subst, sym, ◌∙◌}
 use Rattle.trace_feed.specs.Readings.{readings_of}
 use Rattle.r2u2_monitor.specs.declared.state.State.{State}
 use Rattle.r2u2_monitor.specs.Kept.{state_of}
@@ -11,7 +11,7 @@ invariant_of-self g c =
     let early : monitor.running.taken < 2 ^ 40 = subst (λ (m : State). m.running.taken < 2 ^ 40) (sym c.self.view_is) c.requires.early in
     let sound = c.self.invariant.sound in
     record {
-      sound = sound_after monitor (record { running = c.take.new.self; last = c.swap.new.x; read = c.swap.new.y }) c.swap.new.x sound (rw c.as_slice.ensures at c.take.ensures.takes) early refl c.take.ensures.numbers (ap length c.swap.ensures.x_after ∙ sound.read_wide) (ap length c.swap.ensures.y_after ∙ sound.last_wide);
+      sound = sound_after monitor (record { running = c.take.new.self; last = c.of-self-inside.result.numbers; read = monitor.read }) monitor.read sound (rw c.as_slice-row.ensures at c.take.ensures.takes) early (c.of-self-inside.ensures ∙ c.as_slice-row.ensures) c.take.ensures.numbers sound.read_wide;
       resumes = λ rows future past count known. c.start-self-inside.ensures c.take.new.self.checked rows c.take.new.self.outs;
       readings = c.self.invariant.readings ∙ ap readings_of (sym c.take.ensures.takes.program);
     }
