@@ -124,13 +124,20 @@ def different_picks(definitions):
     return '%s%sw := {%s};\n%sFTSPEC p;\n' % (DEEP, structs, members(60, 'e#'), users)
 
 
-def turned_picks(definitions):
-    """Chains of picked fields in bodies over pairs of structs, which hold one thing and another in turn."""
+def turned(depth):
+    """Structs within one another, and a set of 160 of some depth, which hold one thing and another in turn."""
     other = 'c0 := t0(!p);\n' + ''.join('c%d := t%d(c%d);\n' % (k + 1, k + 1, k) for k in range(DEEPEST))
-    structs = ''.join('e%d := t%d(%s%d);\n' % (k, DEEPEST, 'dc'[k % 2], DEEPEST - 1) for k in range(160))
-    chain = '.f' * (DEEPEST + 1)
-    users = ''.join('a%d := foreach(v: w)(foreach(z: w)(z%s));\n' % (k, chain) for k in range(definitions))
-    return '%s%s%sw := {%s};\n%sFTSPEC p;\n' % (DEEP, other, structs, members(160, 'e#'), users)
+    structs = ''.join('e%d := t%d(%s%d);\n' % (k, depth, 'dc'[k % 2], depth - 1) for k in range(160))
+    return '%s%s%sw := {%s};\n' % (DEEP, other, structs, members(160, 'e#'))
+
+
+def passed(number):
+    """A definition over pairs of members of two kinds, whose bodies go through 60 quantifiers over one struct each."""
+    body, last = '', 'w'
+    for k in range(60):
+        body += 'foreach(v%d:{t(%s)})(' % (k, last)
+        last = 'v%d.a' % k
+    return 'a%d:=foreach(v:s)(foreach(w:s)(%s%s));\n' % (number, body, last + ')' * 60)
 
 
 def output_picks():
@@ -171,7 +178,12 @@ TEXTS = [
     filled('number-picks', 'chains of picked fields in bodies over pairs of numbers', DEEP,
            numbered('DEFINE a#:=foreach(n:s)(foreach(v:u)(n>0||v%s));\n' % ('.f' * (DEEPEST + 1))), 'FTSPEC p;\n'),
     Text('different-picks', 'the same over different structs, 8 definitions in 28 KB', lambda: different_picks(8)),
-    Text('turned-picks', 'such chains over pairs of structs of two kinds in turn, 4 definitions in 34 KB', lambda: turned_picks(4)),
+    filled('turned-picks', 'such chains over pairs of structs of two kinds in turn', turned(DEEPEST),
+           numbered('a#:=foreach(v:w)(foreach(z:w)(z%s));\n' % ('.f' * (DEEPEST + 1))), 'FTSPEC p;\n'),
+    filled('both-picks', 'such chains from both variables', turned(230),
+           numbered('a#:=foreach(v:w)(foreach(z:w)(v%s||z%s));\n' % (('.f' * 231,) * 2)), 'FTSPEC p;\n'),
+    filled('passed-picks', 'quantifiers over one struct each, within one over pairs of members of two kinds',
+           MIXED + 'STRUCT t: { a: bool; };\nDEFINE\n', passed, 'FTSPEC p;\n'),
     Text('output-picks', 'such a chain in the 32,000 bodies of one output, in 25 KB', output_picks),
     filled('single', 'quantifiers over one member each, within one over pairs', LARGEST + 'DEFINE\n', chained, 'FTSPEC p;\n'),
     Text('nested-picks', '23 quantifiers within one another over picked fields', lambda: picked_within(23)),

@@ -11,26 +11,27 @@ use Rattle.count_sets.specs.Counting.{counting}
 use Rattle.c2po_unfold.specs.declared.fact.Fact.{Fact}
 use Rattle.c2po_unfold.specs.Covering.{Mode, exact, Says}
 use Rattle.c2po_nodes.specs.Nodes.{Tree, formula, formula_in, connected}
-use Rattle.c2po_ast.specs.declared.tree.Expr.{Expr}
-use Rattle.c2po_ast.specs.Shape.{shape, shapes}
+use Rattle.c2po_unfold.specs.declared.resolved.Resolved.{Resolved}
+use Rattle.c2po_unfold.specs.declared.resolved.Quantified.{Quantified}
 use Rattle.c2po_unfold.specs.declared.values.Stored.{Stored}
 use Rattle.c2po_unfold.specs.declared.scope.Scope.{Scope}
 use Rattle.c2po_unfold.specs.declared.scope.Head.{Head}
-use Rattle.c2po_unfold.specs.declared.operators.Bodies.{Bodies}
 use Rattle.c2po_unfold.specs.declared.operators.BinaryOp.TheVariants as binary
 use Rattle.c2po_unfold.specs.declared.unfolding.Unfolding.{Unfolding}
 use Rattle.c2po_unfold.specs.Values.{Value, Values, none, more, list_of, values_from, formula_of, formulas_in, members, joined_formula, connected_all, counted, counted_formula, tree_in, truth_value}
 use Rattle.c2po_unfold.specs.Weights.{weight, parts_weight, counting_weight}
-use Rattle.c2po_unfold.specs.Environment.{Env, bind, value_of, values_of}
-use Rattle.c2po_unfold.specs.Holding.{Holds, HoldAll, Fits, IsLater}
+use Rattle.c2po_unfold.specs.Environment.{Env, bind}
+use Rattle.c2po_unfold.specs.Holding.{Holds, HoldAll, IsLater}
 use Rattle.c2po_unfold.specs.Heads.{Heads}
-use Rattle.c2po_unfold.specs.Operators.{binary_value, bodies_over}
+use Rattle.c2po_unfold.specs.Operators.{binary_value}
+use Rattle.c2po_unfold.specs.Resolving.{AllResolved, IsResolved, resolved_body, resolved_bodies, resolved_value, resolved_values}
+use Rattle.c2po_unfold.specs.Scopes.{Fits, Meets, names_of}
 use Rattle.c2po_unfold.specs.declared.summary.Summary.{Summary}
 use Rattle.c2po_unfold.specs.Summaries.{IsSummary, gathered}
 use Rattle.c2po_unfold.specs.declared.summing.BodyFact.{BodyFact}
-use Rattle.c2po_unfold.specs.Bodies.{IsOfBody}
-use Rattle.c2po_unfold.proofs.Later.{later_same, later_then, hold_all_later, fits_later}
-use Rattle.c2po_unfold.proofs.Members.{holds_weight, list_values, value_at}
+use Rattle.c2po_unfold.specs.Bodies.{IsOfBody, MeetsAll, MeetsBody}
+use Rattle.c2po_unfold.proofs.Later.{later_same, later_then, hold_all_later, fits_later, resolved_later}
+use Rattle.c2po_unfold.proofs.Members.{holds_weight, list_values, resolved_at, value_at}
 
 -- the first elements and one more
 pub take_next : {A : Type 0} (xs : List A) (i : ℕ) (x : A) → slice_get xs i ≡ Some x → take (i + 1) xs ≡ take i xs ++ x ∷ []
@@ -43,8 +44,8 @@ pub parts_sum : (vs : Values) → parts_weight vs ≡ sum_by weight (list_of vs)
 parts_sum none = refl
 parts_sum (more v vs) = ap (λ n. weight v + n) (parts_sum vs) ∙ sym (sum_by-cons weight v (list_of vs))
 
-pub weight_push : (es : List Expr) (e : Expr) (env : Env) →
-    parts_weight (values_of (shapes (es ++ e ∷ [])) env) ≡ parts_weight (values_of (shapes es) env) + weight (value_of (shape e) env)
+pub weight_push : (es : List Resolved) (e : Resolved) (env : Env) →
+    parts_weight (resolved_values (es ++ e ∷ []) env) ≡ parts_weight (resolved_values es env) + weight (resolved_value e env)
 weight_push [] e env = omega arith
 weight_push (d ∷ es) e env = omega (arith, weight_push es e env)
 
@@ -54,52 +55,67 @@ sum_within vs i v h =
     subst (λ x. sum_by weight (take i vs) + weight x ≤ sum_by weight vs) (get_or_from_slice_get vs i v v h)
     (sum_by_more_le weight vs i v (slice_get_within vs i v h))
 
-pub weight_within : (es : List Expr) (i : ℕ) (e : Expr) (env : Env) → slice_get es i ≡ Some e →
-    parts_weight (values_of (shapes (take i es)) env) + weight (value_of (shape e) env) ≤ parts_weight (values_of (shapes es) env)
+pub weight_within : (es : List Resolved) (i : ℕ) (e : Resolved) (env : Env) → slice_get es i ≡ Some e →
+    parts_weight (resolved_values (take i es) env) + weight (resolved_value e env) ≤ parts_weight (resolved_values es env)
 weight_within es i e env h =
-    let f = λ (x : Expr). value_of (shape x) env in
-    let same : list_of (values_of (shapes (take i es)) env) ≡ take i (list_of (values_of (shapes es) env)) =
+    let f = λ (x : Resolved). resolved_value x env in
+    let same : list_of (resolved_values (take i es) env) ≡ take i (list_of (resolved_values es env)) =
     list_values (take i es) env ∙ (sym (take-map f i es) ∙ ap (take i) (sym (list_values es env))) in
     omega (
       arith,
-      parts_sum (values_of (shapes (take i es)) env),
-      parts_sum (values_of (shapes es) env),
+      parts_sum (resolved_values (take i es) env),
+      parts_sum (resolved_values es env),
       ap (sum_by weight) same,
-      sum_within (list_of (values_of (shapes es) env)) i (value_of (shape e) env) (value_at es env i e h),
+      sum_within (list_of (resolved_values es env)) i (resolved_value e env) (value_at es env i e h),
     )
 
-hold_push : (es : List Expr) (u : Unfolding) (ss : List Stored) (s : Stored) (e : Expr) (env : Env) →
-    HoldAll u ss (values_of (shapes es) env) → Holds u s (value_of (shape e) env) → HoldAll u (ss ++ s ∷ []) (values_of (shapes (es ++ e ∷ [])) env)
+hold_push : (es : List Resolved) (u : Unfolding) (ss : List Stored) (s : Stored) (e : Resolved) (env : Env) →
+    HoldAll u ss (resolved_values es env) → Holds u s (resolved_value e env) → HoldAll u (ss ++ s ∷ []) (resolved_values (es ++ e ∷ []) env)
 hold_push [] u ss s e env h k = (s, [], ap (λ xs. xs ++ s ∷ []) h, k, refl)
 hold_push (d ∷ es) u ss s e env h k =
     (h.0, h.1 ++ s ∷ [], ap (λ xs. xs ++ s ∷ []) h.2, h.3, hold_push es u h.1 s e env h.4 k)
 
--- the first parts of a struct's value or of a set
-pub record BuiltSoFar (old now : Unfolding) (scope : Scope) (es : List Expr) (done : List Stored) (room left : ℕ) : Type 0 where
-  pub later : IsLater old now
-  pub inside : left < room
-  pub holds : (env : Env) → Fits exact old scope env → HoldAll now done (values_of (shapes es) env)
-  pub weight : (env : Env) → Fits exact old scope env → room ≡ left + (1 + parts_weight (values_of (shapes es) env))
-
-pub built_start : (u : Unfolding) (scope : Scope) (room left : ℕ) → left + 1 ≡ room → BuiltSoFar u u scope [] [] room left
-built_start u scope room left e = record {
-  later = later_same u;
-  inside = omega arith;
-  holds = λ env h. refl;
-  weight = λ env h. omega arith;
+-- the names of one of the expressions are resolved, within a later state too
+pub meets_at : (m : Mode) (old now : Unfolding) (base : Env) (scope : Scope) (env : Env) (es : List Resolved) (i : ℕ) (e : Resolved) → IsLater old now →
+    Fits m old base scope env → AllResolved old base (names_of scope) es → slice_get es i ≡ Some e → Meets m now base scope env e
+meets_at m old now base scope env es i e later fits all at = record {
+  fits = fits_later m base scope old now env later fits;
+  resolved = resolved_later old now base (names_of scope) e later (resolved_at es old base (names_of scope) i e all at);
 }
 
-pub built_more : (old now new : Unfolding) (scope : Scope) (es : List Expr) (i : ℕ) (e : Expr) (done : List Stored) (s : Stored) (room left : ℕ) →
-    BuiltSoFar old now scope (take i es) done room left → slice_get es i ≡ Some e → IsLater now new →
-    ((env : Env) → Fits exact now scope env → Holds new s (value_of (shape e) env)) → s.weight ≤ left →
-    BuiltSoFar old new scope (take (i + 1) es) (done ++ s ∷ []) room (left - s.weight)
+-- the first parts of a struct's value or of a set
+pub record BuiltSoFar (old now : Unfolding) (scope : Scope) (whole es : List Resolved) (done : List Stored) (room left : ℕ) : Type 0 where
+  pub later : IsLater old now
+  pub inside : left < room
+  pub holds : (base env : Env) → Fits exact old base scope env → AllResolved old base (names_of scope) whole → HoldAll now done (resolved_values es env)
+  pub weight : (base env : Env) → Fits exact old base scope env → AllResolved old base (names_of scope) whole →
+      room ≡ left + (1 + parts_weight (resolved_values es env))
+
+pub built_start : (u : Unfolding) (scope : Scope) (whole : List Resolved) (room left : ℕ) → left + 1 ≡ room → BuiltSoFar u u scope whole [] [] room left
+built_start u scope whole room left e = record {
+  later = later_same u;
+  inside = omega arith;
+  holds = λ base env h all. refl;
+  weight = λ base env h all. omega arith;
+}
+
+pub built_more : (old now new : Unfolding) (scope : Scope) (es : List Resolved) (i : ℕ) (e : Resolved) (done : List Stored) (s : Stored) (room left : ℕ) →
+    BuiltSoFar old now scope es (take i es) done room left → slice_get es i ≡ Some e → IsLater now new →
+    ((base env : Env) → Meets exact now base scope env e → Holds new s (resolved_value e env)) → s.weight ≤ left →
+    BuiltSoFar old new scope es (take (i + 1) es) (done ++ s ∷ []) room (left - s.weight)
 built_more old now new scope es i e done s room left b at next holds light =
-    subst (λ xs. BuiltSoFar old new scope xs (done ++ s ∷ []) room (left - s.weight)) (sym (take_next es i e at)) (record {
+    subst (λ xs. BuiltSoFar old new scope es xs (done ++ s ∷ []) room (left - s.weight)) (sym (take_next es i e at)) (record {
       later = later_then old now new b.later next;
       inside = omega (arith, b.inside);
-      holds = λ env h. hold_push (take i es) new done s e env (hold_all_later _ now new done next (b.holds env h)) (holds env (fits_later exact scope old now env b.later h));
-      weight = λ env h.
-          omega (arith, b.weight env h, weight_push (take i es) e env, holds_weight _ new s (holds env (fits_later exact scope old now env b.later h)));
+      holds = λ base env h all.
+          hold_push (take i es) new done s e env (hold_all_later _ now new done next (b.holds base env h all))
+          (holds base env (meets_at exact old now base scope env es i e b.later h all at));
+      weight = λ base env h all. omega (
+        arith,
+        b.weight base env h all,
+        weight_push (take i es) e env,
+        holds_weight _ new s (holds base env (meets_at exact old now base scope env es i e b.later h all at)),
+      );
     })
 
 -- bodies in order, their formulas and their weights
@@ -137,49 +153,76 @@ joined_within op vs i v h some =
 pub joined_first : (op : LogicOp) (vs : List Value) (v : Value) → slice_get vs 0 ≡ Some v → weight v ≤ weight (connected_all op vs)
 joined_first op vs v h = omega (arith, joined_weight op vs, sum_within vs 0 v h)
 
--- the values of a body, one for each member of a set that a name stands for
-abbrev pub values_over : Expr → List ℕ → Env → Value → List Value
-values_over body name env s = map (λ v. value_of (shape body) (bind name v env)) (members s)
-
 -- the weight of the first expressions
-pub record WeighedSoFar (u : Unfolding) (scope : Scope) (es : List Expr) (room left : ℕ) : Type 0 where
+pub record WeighedSoFar (u : Unfolding) (scope : Scope) (whole es : List Resolved) (room left : ℕ) : Type 0 where
   pub inside : left < room
-  pub weight : (m : Mode) (env : Env) → Fits m u scope env → room ≡ left + (1 + parts_weight (values_of (shapes es) env))
+  pub weight : (m : Mode) (base env : Env) → Fits m u base scope env → AllResolved u base (names_of scope) whole →
+      room ≡ left + (1 + parts_weight (resolved_values es env))
 
-pub weighed_more : (u : Unfolding) (scope : Scope) (es : List Expr) (i : ℕ) (e : Expr) (s : Summary) (room left : ℕ) →
-    WeighedSoFar u scope (take i es) room left → slice_get es i ≡ Some e →
-    ((m : Mode) (env : Env) → Fits m u scope env → IsSummary m s (value_of (shape e) env)) → s.weight ≤ left →
-    WeighedSoFar u scope (take (i + 1) es) room (left - s.weight)
+pub weighed_more : (u : Unfolding) (scope : Scope) (es : List Resolved) (i : ℕ) (e : Resolved) (s : Summary) (room left : ℕ) →
+    WeighedSoFar u scope es (take i es) room left → slice_get es i ≡ Some e →
+    ((m : Mode) (base env : Env) → Meets m u base scope env e → IsSummary m s (resolved_value e env)) → s.weight ≤ left →
+    WeighedSoFar u scope es (take (i + 1) es) room (left - s.weight)
 weighed_more u scope es i e s room left b at holds light =
-    subst (λ xs. WeighedSoFar u scope xs room (left - s.weight)) (sym (take_next es i e at)) (record {
+    subst (λ xs. WeighedSoFar u scope es xs room (left - s.weight)) (sym (take_next es i e at)) (record {
       inside = omega (arith, b.inside);
-      weight = λ m env h. omega (arith, b.weight m env h, weight_push (take i es) e env, (holds m env h).weight);
+      weight = λ m base env h all. omega (
+        arith,
+        b.weight m base env h all,
+        weight_push (take i es) e env,
+        (holds m base env (meets_at m u u base scope env es i e (later_same u) h all at)).weight,
+      );
     })
 
+-- a quantifier's names are resolved where those of its set and of its body are
+pub meets_all : (m : Mode) (u : Unfolding) (base : Env) (scope : Scope) (env : Env) (q : Quantified) (s b : Resolved) → q.set.now ≡ s → q.body.now ≡ b →
+    Fits m u base scope env → IsResolved u base (names_of scope) s → IsResolved u base (q.name.now ∷ names_of scope) b → MeetsAll m u base scope env q
+meets_all m u base scope env q s b set body fits within inner = record {
+  set = record { fits = fits; resolved = subst (IsResolved u base (names_of scope)) (sym set) within };
+  body = record { fits = fits; resolved = subst (IsResolved u base (q.name.now ∷ names_of scope)) (sym body) inner };
+}
+
+-- the values of bodies by the set and the body
+pub bodies_by : (x : List ℕ) (env : Env) (set body s b : Resolved) → set ≡ s → body ≡ b →
+    map (λ v. resolved_value body (bind x v env)) (members (resolved_value set env)) ≡ map (λ v. resolved_value b (bind x v env)) (members (resolved_value s env))
+bodies_by x env set body s b sets bodies =
+    ap (λ r. map (λ v. resolved_value body (bind x v env)) (members (resolved_value r env))) sets
+    ∙ ap (λ r. map (λ v. resolved_value r (bind x v env)) (members (resolved_value s env))) bodies
+
+-- a quantifier's body within its own variable too
+pub meets_within : (m : Mode) (u : Unfolding) (base : Env) (scope within : Scope) (env : Env) (q : Quantified) (v : Value) → names_of within ≡ q.name.now ∷ names_of scope →
+    Fits m u base within (bind q.name.now v env) → IsResolved u base (q.name.now ∷ names_of scope) q.body.now →
+    Meets m u base within (bind q.name.now v env) q.body.now
+meets_within m u base scope within env q v names fits resolved = record {
+  fits = fits;
+  resolved = subst (λ xs. IsResolved u base xs q.body.now) (sym names) resolved;
+}
+
 -- the bodies of a quantifier that are joined so far
-pub record JoinedSoFar (u : Unfolding) (scope : Scope) (set : Head) (q : Bodies) (op : LogicOp) (room i : ℕ) (all : Summary) (last : BodyFact) : Type 0 where
+pub record JoinedSoFar (u : Unfolding) (scope : Scope) (set : Head) (q : Quantified) (op : LogicOp) (room i : ℕ) (all : Summary) (last : BodyFact) : Type 0 where
   pub light : all.weight ≤ room
   pub known : IsOfBody u scope q last
-  pub holds : (m : Mode) (env : Env) (s : Value) → Fits m u scope env → Heads m u set s → IsSummary m all (connected_all op (take i (bodies_over q env s)))
+  pub holds : (m : Mode) (base env : Env) (s : Value) → MeetsBody m u base scope env q → Heads m u base set s →
+      IsSummary m all (connected_all op (take i (resolved_bodies q env s)))
 
 -- what is known of the bodies of a quantifier so far, together
-pub record GatheredSoFar (u : Unfolding) (scope : Scope) (set : Head) (q : Bodies) (room i : ℕ) (fact : Fact) (left : ℕ) (last : BodyFact) : Type 0 where
+pub record GatheredSoFar (u : Unfolding) (scope : Scope) (set : Head) (q : Quantified) (room i : ℕ) (fact : Fact) (left : ℕ) (last : BodyFact) : Type 0 where
   pub inside : left ≤ room
   pub known : IsOfBody u scope q last
-  pub tells : (m : Mode) (env : Env) (s : Value) → Fits m u scope env → Heads m u set s →
-      Says m fact (Some (formula (gathered (map formula_of (take i (bodies_over q env s))))))
-  pub weight : (m : Mode) (env : Env) (s : Value) → Fits m u scope env → Heads m u set s →
-      room ≡ left + sum_by weight (take i (bodies_over q env s))
+  pub tells : (m : Mode) (base env : Env) (s : Value) → MeetsBody m u base scope env q → Heads m u base set s →
+      Says m fact (Some (formula (gathered (map formula_of (take i (resolved_bodies q env s))))))
+  pub weight : (m : Mode) (base env : Env) (s : Value) → MeetsBody m u base scope env q → Heads m u base set s →
+      room ≡ left + sum_by weight (take i (resolved_bodies q env s))
 
 -- a member of a set, and the body with it
 pub member_at : (ms : List Value) (i n : ℕ) → n ≡ length ms → i < n → slice_get ms i ≡ Some (get_or ms i (truth_value false))
 member_at ms i n count inside = slice_get-get_or ms i (truth_value false) (omega arith)
 
-pub body_at : (q : Bodies) (env : Env) (s v : Value) (i : ℕ) → slice_get (members s) i ≡ Some v →
-    slice_get (bodies_over q env s) i ≡ Some (value_of (shape q.body.now) (bind q.name.now v env))
+pub body_at : (q : Quantified) (env : Env) (s v : Value) (i : ℕ) → slice_get (members s) i ≡ Some v →
+    slice_get (resolved_bodies q env s) i ≡ Some (resolved_body q env v)
 body_at q env s v i h =
-    slice_get-map (λ x. value_of (shape q.body.now) (bind q.name.now x env)) (members s) i
-    ∙ ap (option_map (λ x. value_of (shape q.body.now) (bind q.name.now x env))) h
+    slice_get-map (resolved_body q env) (members s) i
+    ∙ ap (option_map (resolved_body q env)) h
 
 pub none_left : {A : Type 0} (xs : List A) (n : ℕ) → n ≡ length xs → n ≡ 0 → xs ≡ []
 none_left [] n e z = refl
@@ -217,8 +260,8 @@ joined_known m s op vs i v h some known =
       fact = subst (λ p. Says m s.fact (Some (formula p))) (joined_next op vs i v h some) known.fact;
     }
 
-pub bodies_count : (q : Bodies) (env : Env) (s : Value) → length (bodies_over q env s) ≡ length (members s)
-bodies_count q env s = length-map (members s) (λ v. value_of (shape q.body.now) (bind q.name.now v env))
+pub bodies_count : (q : Quantified) (env : Env) (s : Value) → length (resolved_bodies q env s) ≡ length (members s)
+bodies_count q env s = length-map (members s) (resolved_body q env)
 
 pub gathered_push : (ps : List Formula) (p : Formula) → gathered (ps ++ p ∷ []) ≡ disjunction p (gathered ps)
 gathered_push ps p = fold_push (λ found p. disjunction p found) falsity ps p
@@ -231,30 +274,31 @@ gathered_next vs i v h =
     ∙ gathered_push (map formula_of (take i vs)) (formula_of v))
 
 -- one more body, before the others
-pub gathered_more : (u : Unfolding) (scope : Scope) (set : Head) (q : Bodies) (room i : ℕ) (fact new : Fact) (left : ℕ) (last next : BodyFact) →
-    GatheredSoFar u scope set q room i fact left last → next.summary.weight ≤ left → ((m : Mode) (s : Value) → Heads m u set s → i < length (members s)) →
-    ((m : Mode) (env : Env) (s v : Value) → Fits m u scope env → Heads m u set s → slice_get (members s) i ≡ Some v →
-    IsSummary m next.summary (value_of (shape q.body.now) (bind q.name.now v env))) →
+pub gathered_more : (u : Unfolding) (scope : Scope) (set : Head) (q : Quantified) (room i : ℕ) (fact new : Fact) (left : ℕ) (last next : BodyFact) →
+    GatheredSoFar u scope set q room i fact left last → next.summary.weight ≤ left →
+    ((m : Mode) (base : Env) (s : Value) → Heads m u base set s → i < length (members s)) →
+    ((m : Mode) (base env : Env) (s v : Value) → MeetsBody m u base scope env q → Heads m u base set s → slice_get (members s) i ≡ Some v →
+    IsSummary m next.summary (resolved_body q env v)) →
     IsOfBody u scope q next →
     ((m : Mode) (o p : Option Tree) → Says m next.summary.fact o → Says m fact p → Says m new (Some (formula (disjunction (formula_in o) (formula_in p))))) →
     GatheredSoFar u scope set q room (i + 1) new (left - next.summary.weight) next
 gathered_more u scope set q room i fact new left last next g light inside holds known joins = record {
   inside = omega (arith, g.inside);
   known = known;
-  tells = λ m env s h heads.
+  tells = λ m base env s h heads.
       let v = get_or (members s) i (truth_value false) in
-      let at : slice_get (members s) i ≡ Some v = member_at (members s) i (length (members s)) refl (inside m s heads) in
-      let w = value_of (shape q.body.now) (bind q.name.now v env) in
-      subst (λ p. Says m new (Some (formula p))) (sym (gathered_next (bodies_over q env s) i w (body_at q env s v i at)))
-      (joins m (tree_in w) (Some (formula (gathered (map formula_of (take i (bodies_over q env s)))))) (holds m env s v h heads at).fact (g.tells m env s h heads));
-  weight = λ m env s h heads.
+      let at : slice_get (members s) i ≡ Some v = member_at (members s) i (length (members s)) refl (inside m base s heads) in
+      let w = resolved_body q env v in
+      subst (λ p. Says m new (Some (formula p))) (sym (gathered_next (resolved_bodies q env s) i w (body_at q env s v i at)))
+      (joins m (tree_in w) (Some (formula (gathered (map formula_of (take i (resolved_bodies q env s)))))) (holds m base env s v h heads at).fact (g.tells m base env s h heads));
+  weight = λ m base env s h heads.
       let v = get_or (members s) i (truth_value false) in
-      let at : slice_get (members s) i ≡ Some v = member_at (members s) i (length (members s)) refl (inside m s heads) in
+      let at : slice_get (members s) i ≡ Some v = member_at (members s) i (length (members s)) refl (inside m base s heads) in
       omega (
         arith,
-        g.weight m env s h heads,
-        sum_next (bodies_over q env s) i (value_of (shape q.body.now) (bind q.name.now v env)) (body_at q env s v i at),
-        (holds m env s v h heads at).weight,
+        g.weight m base env s h heads,
+        sum_next (resolved_bodies q env s) i (resolved_body q env v) (body_at q env s v i at),
+        (holds m base env s v h heads at).weight,
       );
 }
 
@@ -278,5 +322,5 @@ counted_tells g op n m vs f some count h =
     subst (λ p. Says g f (Some (formula p))) (ap (λ k. counted_formula (map formula_of vs) (counting op k m)) count ∙ sym (counted_means op m vs some)) h
 
 -- nothing is known of a body where its variable is no stored value
-pub not_known : (u : Unfolding) (scope : Scope) (q : Bodies) (known : BodyFact) → known.member ≡ None → known.cover ≡ None → IsOfBody u scope q known
-not_known u scope q known nothing bare = record { holds = λ m env s v some. cc; covers = λ m env s v some. cc }
+pub not_known : (u : Unfolding) (scope : Scope) (q : Quantified) (known : BodyFact) → known.member ≡ None → known.cover ≡ None → IsOfBody u scope q known
+not_known u scope q known nothing bare = record { holds = λ m base env s v some. cc; covers = λ m base env s v some. cc }

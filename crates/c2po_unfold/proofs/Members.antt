@@ -3,9 +3,8 @@
 use Rattle.std.proofs.Common.{◌≡◌, ℕ, zero, suc, true, Some, List, [], ◌∷◌, map, length, get_or, slice_get, ◌++◌, ◌<◌, refl, sym, subst, ap, ◌∙◌}
 use Rattle.std.proofs.lemmas.Option.{slice_get_read}
 use Rattle.c2po_nodes.proofs.Places.{get_last}
-use Rattle.c2po_ast.specs.Shape as tree
-use Rattle.c2po_ast.specs.Shape.{Shape, shape, shapes}
-use Rattle.c2po_ast.specs.declared.tree.Expr.{Expr}
+use Rattle.c2po_unfold.specs.declared.resolved.Resolved.{Resolved, Number, Truth, Known, Found', Variable, Build', Group', Part'}
+use Rattle.c2po_unfold.specs.declared.resolved.Resolved.{Column', Unary', Binary', Joined', Counted'}
 use Rattle.c2po_unfold.specs.declared.values.Stored.{Stored}
 use Rattle.c2po_unfold.specs.declared.unfolding.Unfolding.{Unfolding}
 use Rattle.c2po_nodes.specs.Faults.{or_later}
@@ -14,24 +13,33 @@ use Rattle.c2po_unfold.specs.Faults.{value_fault, values_fault}
 use Rattle.c2po_unfold.specs.Parts.{stored_fault}
 use Rattle.c2po_unfold.specs.Values.{Value, Values, Leaf, leaf, structure, set, none, more, list_of}
 use Rattle.c2po_unfold.specs.Weights.{weight}
-use Rattle.c2po_unfold.specs.Environment.{Env, value_of, values_of}
+use Rattle.c2po_unfold.specs.Environment.{Env}
 use Rattle.c2po_unfold.specs.Holding.{Holds, HoldAll}
-use Rattle.c2po_unfold.specs.Heads.{is_operator}
+use Rattle.c2po_unfold.specs.Resolving.{AllResolved, IsResolved, is_operation, resolved_value, resolved_values}
 
 -- the values of expressions in order
-pub list_values : (es : List Expr) (env : Env) → list_of (values_of (shapes es) env) ≡ map (λ e. value_of (shape e) env) es
+pub list_values : (es : List Resolved) (env : Env) → list_of (resolved_values es env) ≡ map (λ e. resolved_value e env) es
 list_values [] env = refl
-list_values (e ∷ es) env = ap (λ vs. value_of (shape e) env ∷ vs) (list_values es env)
+list_values (e ∷ es) env = ap (λ vs. resolved_value e env ∷ vs) (list_values es env)
 
-pub values_count : (es : List Expr) (env : Env) → length (list_of (values_of (shapes es) env)) ≡ length es
+pub values_count : (es : List Resolved) (env : Env) → length (list_of (resolved_values es env)) ≡ length es
 values_count [] env = refl
 values_count (e ∷ es) env = ap suc (values_count es env)
 
-pub value_at : (es : List Expr) (env : Env) (i : ℕ) (e : Expr) → slice_get es i ≡ Some e →
-    slice_get (list_of (values_of (shapes es) env)) i ≡ Some (value_of (shape e) env)
+pub value_at : (es : List Resolved) (env : Env) (i : ℕ) (e : Resolved) → slice_get es i ≡ Some e →
+    slice_get (list_of (resolved_values es env)) i ≡ Some (resolved_value e env)
 value_at [] env i e h = cc
 value_at (d ∷ es) env zero e h = cc
 value_at (d ∷ es) env (suc i) e h = value_at es env i e h
+
+-- the names of each of some expressions are resolved
+pub resolved_at : (es : List Resolved) (u : Unfolding) (base : Env) (xs : List (List ℕ)) (i : ℕ) (e : Resolved) → AllResolved u base xs es →
+    slice_get es i ≡ Some e → IsResolved u base xs e
+resolved_at [] u base xs i e h at = cc
+resolved_at (d ∷ es) u base xs zero e h at =
+    let same : d ≡ e = cc in
+    subst (IsResolved u base xs) same h.0
+resolved_at (d ∷ es) u base xs (suc i) e h at = resolved_at es u base xs i e h.1 at
 
 -- stored values of parts, place by place
 pub hold_count : (vs : Values) (u : Unfolding) (ss : List Stored) → HoldAll u ss vs → length ss ≡ length (list_of vs)
@@ -48,28 +56,25 @@ hold_at (more w vs) u ss zero s v h a b =
 hold_at (more w vs) u ss (suc i) s v h a b =
     hold_at vs u h.1 i s v h.4 (subst (λ xs. slice_get xs (suc i) ≡ Some s) h.2 a) b
 
--- an operator's value is a number or a formula
+-- the value of an operator or a quantifier is a number or a formula
 pub record IsLeaf (v : Value) : Type 0 where
   pub of : Leaf
   pub is : v ≡ leaf of
 
-pub operator_is_leaf : (e : Shape) (env : Env) → is_operator e ≡ true → IsLeaf (value_of e env)
-operator_is_leaf (tree.number line n) env h = record { of = _; is = refl }
-operator_is_leaf (tree.truth line b) env h = record { of = _; is = refl }
-operator_is_leaf (tree.named line x) env h = cc
-operator_is_leaf (tree.build line x es) env h = cc
-operator_is_leaf (tree.group line es) env h = cc
-operator_is_leaf (tree.pick line e x) env h = cc
-operator_is_leaf (tree.minus line e) env h = record { of = _; is = refl }
-operator_is_leaf (tree.negation line e) env h = record { of = _; is = refl }
-operator_is_leaf (tree.arith line op e f) env h = record { of = _; is = refl }
-operator_is_leaf (tree.compare line op e f) env h = record { of = _; is = refl }
-operator_is_leaf (tree.logic line op e f) env h = record { of = _; is = refl }
-operator_is_leaf (tree.window line op a b e) env h = record { of = _; is = refl }
-operator_is_leaf (tree.between line op a b e f) env h = record { of = _; is = refl }
-operator_is_leaf (tree.each line x s e) env h = record { of = _; is = refl }
-operator_is_leaf (tree.exists line x s e) env h = record { of = _; is = refl }
-operator_is_leaf (tree.count line op x s m e) env h = record { of = _; is = refl }
+pub operation_is_leaf : (e : Resolved) (env : Env) → is_operation e ≡ true → IsLeaf (resolved_value e env)
+operation_is_leaf (Number n) env h = record { of = _; is = refl }
+operation_is_leaf (Truth b) env h = record { of = _; is = refl }
+operation_is_leaf (Known x s) env h = cc
+operation_is_leaf (Found' p e s) env h = cc
+operation_is_leaf (Variable x) env h = cc
+operation_is_leaf (Column' p e x rows) env h = cc
+operation_is_leaf (Build' x p es) env h = cc
+operation_is_leaf (Group' p es) env h = cc
+operation_is_leaf (Part' p e x hint) env h = cc
+operation_is_leaf (Unary' op p a) env h = record { of = _; is = refl }
+operation_is_leaf (Binary' op p a q b) env h = record { of = _; is = refl }
+operation_is_leaf (Joined' op x p s q e) env h = record { of = _; is = refl }
+operation_is_leaf (Counted' op m x p s q e) env h = record { of = _; is = refl }
 
 -- what was looked up in a slice stands in the list
 pub found_at : {A : Type 0} (xs ys : List A) (i : ℕ) (x : A) → xs ≡ ys → i < length xs → x ≡ get_or xs i x → slice_get ys i ≡ Some x

@@ -1,11 +1,7 @@
 -- Ranges that are within others, and what operations make of them.
 
-use Rattle.std.proofs.Common.{◌≡◌, ℕ, zero, suc, ◌-◌, ◌*◌, ◌/◌, ◌≤◌, ℤ, pos, negsuc, neg_ℤ, ◌*ℤ◌, ◌≤ℤ◌, int_div, int_le, int_eq, unsigned_abs, Bool, true, false, not, ◌&&◌, if◌then◌else◌, Ok, Err, T, refl, sym, subst, ap, ap₂, ◌∙◌, le_trans, mul-le-mul_right, div-mul-le_self, arith, []}
-use Rattle.std.specs.Int.Signed.{le_z_yes}
-use Rattle.std.proofs.Math.IntN.{*ℤ_comm}
-use Rattle.std.proofs.lemmas.Nat.{le-div}
-use Rattle.std.proofs.lemmas.Bool.{and_parts, both_ways, not-true}
-use Rattle.std.proofs.lemmas.Bool.Decides.{Decides-int_eq}
+use Rattle.std.proofs.Common.{◌≡◌, ℕ, ◌-◌, ℤ, pos, neg_ℤ, ◌*ℤ◌, ◌≤ℤ◌, int_div, int_le, unsigned_abs, Bool, true, false, ◌&&◌, if◌then◌else◌, Ok, Err, refl, sym, subst, ap, ap₂, ◌∙◌, arith, []}
+use Rattle.std.proofs.lemmas.Bool.{and_parts}
 use Rattle.std.specs.Int.{int_min, int_max}
 use Rattle.std.proofs.lemmas.Int.{ints, clamps}
 use Rattle.mltl_base.specs.declared.operators.ArithOp as arithmetic_op

@@ -1,29 +1,33 @@
 -- What names and picked fields lead to.
 
-use Rattle.std.specs.Prelude.{ℕ, ◌≡◌, Bool, true, false, List, [], slice_get, Some}
+use Rattle.std.specs.Prelude.{ℕ, ◌≡◌, Bool, true, false, Some, List, [], slice_get}
 use Rattle.c2po_ast.specs.Shape as tree
-use Rattle.c2po_ast.specs.Shape.{Shape, shape, shapes}
-use Rattle.c2po_unfold.specs.declared.scope.Named.{Named}
-use Rattle.c2po_unfold.specs.declared.scope.Named.TheVariants as named
+use Rattle.c2po_ast.specs.Shape.{Shape}
+use Rattle.c2po_unfold.specs.declared.scope.Led.{Led}
+use Rattle.c2po_unfold.specs.declared.scope.Led.TheVariants as led
 use Rattle.c2po_unfold.specs.declared.scope.Head.{Head}
 use Rattle.c2po_unfold.specs.declared.scope.Head.TheVariants as head
+use Rattle.c2po_unfold.specs.declared.values.Location.TheVariants.{Parts as PartsAt}
 use Rattle.c2po_unfold.specs.declared.values.Stored.{Stored}
+use Rattle.c2po_unfold.specs.declared.values.Whole.TheVariants as whole
 use Rattle.c2po_unfold.specs.declared.unfolding.Unfolding.{Unfolding}
-use Rattle.c2po_unfold.specs.Values.{Value, leaf, structure, set, truth_value, built, grouped}
-use Rattle.c2po_unfold.specs.Environment.{Env, Known, nothing, fields, value, value_of, values_of}
-use Rattle.c2po_unfold.specs.Holding.{Holds, HoldAll, Fits}
+use Rattle.c2po_unfold.specs.Values.{Value, leaf, structure, set, built, grouped, picked}
+use Rattle.c2po_unfold.specs.Environment.{Env}
+use Rattle.c2po_unfold.specs.Holding.{Holds, HoldAll}
+use Rattle.c2po_unfold.specs.Resolving.{AllResolved, IsResolved, is_operation, resolved_value, resolved_values}
+use Rattle.c2po_unfold.specs.Scopes.{Fits, names_of}
 use Rattle.c2po_unfold.specs.Covering.{Mode}
 use Rattle.c2po_unfold.specs.Summaries.{IsOfLeaf}
 
--- what was found for a name is what it means
-abbrev pub Names : Mode → Unfolding → Named → Known → Type 0
-Names m u named.Nothing k = k ≡ nothing
-Names m u (named.Struct i) k = (xs : List (List ℕ)) × (slice_get u.structs i ≡ Some xs) × (k ≡ fields xs)
-Names m u (named.Open scope e) k = (env : Env) × Fits m u scope.now env × (k ≡ value (value_of (shape e.now) env))
-Names m u (named.Held s) k = (v : Value) × Holds u s v × (k ≡ value v)
-Names m u (named.Covered s) k = (v : Value) × IsOfLeaf m s.now v × (k ≡ value v)
+-- what was found for a variable is its value
+abbrev pub IsLed : Mode → Unfolding → Env → Led → Value → Type 0
+IsLed m u base led.Nowhere v = ⊥
+IsLed m u base (led.Open scope e) v = (env : Env) × Fits m u base scope.now env
+    × IsResolved u base (names_of scope.now) e.now × (v ≡ resolved_value e.now env)
+IsLed m u base (led.Held s i) v = Holds u s v
+IsLed m u base (led.Covered s) v = IsOfLeaf m s.now v
 
--- a number, a Boolean, an operator or a quantifier
+-- an expression as it is read: a number, a Boolean, an operator or a quantifier
 abbrev pub is_operator : Shape → Bool
 is_operator (tree.named line x) = false
 is_operator (tree.build line x es) = false
@@ -37,17 +41,28 @@ HoldMembers u ss (set vs) = HoldAll u ss vs
 HoldMembers u ss (structure x vs) = ss ≡ []
 HoldMembers u ss (leaf l) = ss ≡ []
 
+-- a stored value has parts of a struct of this name
+abbrev pub IsOf : Unfolding → Stored → List ℕ → Type 0
+IsOf u s x = (i : ℕ) × (ss : List Stored) × (s.location ≡ PartsAt i)
+    × (slice_get u.parts i ≡ Some (record { whole = whole.Struct x; members = ss }))
+
+-- a stored value is of no struct: a field of it is the value itself
+abbrev pub IsOther : Unfolding → Stored → Type 0
+IsOther u s = (fields : List ℕ → List (List ℕ)) (f : List ℕ) (v : Value) → Holds u s v → picked fields f v ≡ v
+
 -- a head has a value
-abbrev pub Heads : Mode → Unfolding → Head → Value → Type 0
-Heads m u (head.Nothing scope e) v =
-    (env : Env) × Fits m u scope.now env × (v ≡ truth_value false) × (v ≡ value_of (shape e.now) env)
-Heads m u (head.Struct scope e x es) v =
-    (env : Env) × Fits m u scope.now env × (v ≡ built x.now (values_of (shapes es.now) env))
-    × (v ≡ value_of (shape e.now) env)
-Heads m u (head.Set scope e es) v =
-    (env : Env) × Fits m u scope.now env × (v ≡ grouped (values_of (shapes es.now) env))
-    × (v ≡ value_of (shape e.now) env)
-Heads m u (head.Leaf scope e) v =
-    (env : Env) × Fits m u scope.now env × (v ≡ value_of (shape e.now) env) × (is_operator (shape e.now) ≡ true)
-Heads m u (head.Held s) v = Holds u s v
-Heads m u (head.Covered s) v = IsOfLeaf m s.now v
+abbrev pub Heads : Mode → Unfolding → Env → Head → Value → Type 0
+Heads m u base (head.Nothing scope e) v = ⊥
+Heads m u base (head.Struct scope e x es) v =
+    (env : Env) × Fits m u base scope.now env × IsResolved u base (names_of scope.now) e.now
+    × (v ≡ resolved_value e.now env) × AllResolved u base (names_of scope.now) es.now
+    × (v ≡ built x.now (resolved_values es.now env))
+Heads m u base (head.Set scope e es) v =
+    (env : Env) × Fits m u base scope.now env × IsResolved u base (names_of scope.now) e.now
+    × (v ≡ resolved_value e.now env) × AllResolved u base (names_of scope.now) es.now
+    × (v ≡ grouped (resolved_values es.now env))
+Heads m u base (head.Leaf scope e) v =
+    (env : Env) × Fits m u base scope.now env × IsResolved u base (names_of scope.now) e.now
+    × (v ≡ resolved_value e.now env) × (is_operation e.now ≡ true)
+Heads m u base (head.Held s) v = Holds u s v
+Heads m u base (head.Covered s) v = IsOfLeaf m s.now v

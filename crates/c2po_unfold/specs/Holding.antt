@@ -3,7 +3,6 @@
 use Rattle.std.specs.Prelude.{ℕ, ◌≡◌, ◌+◌, Option, Some, None, List, [], ◌∷◌, slice_get}
 use Rattle.c2po_unfold.specs.declared.fact.Fact.{Fact}
 use Rattle.mltl_base.specs.Tables.{entry_of}
-use Rattle.c2po_ast.specs.Shape.{shape}
 use Rattle.c2po_unfold.specs.declared.values.Location.TheVariants.{Leaf as LeafAt, Parts as PartsAt}
 use Rattle.c2po_unfold.specs.declared.values.Stored.{Stored}
 use Rattle.c2po_unfold.specs.declared.values.Whole.TheVariants as whole
@@ -12,16 +11,13 @@ use Rattle.c2po_unfold.specs.declared.values.Entry.{Entry}
 use Rattle.c2po_unfold.specs.declared.values.Entry.TheVariants as entry
 use Rattle.c2po_unfold.specs.declared.unfolding.Weighed.{Weighed}
 use Rattle.c2po_unfold.specs.declared.unfolding.Unfolding.{Unfolding}
-use Rattle.c2po_unfold.specs.declared.scope.Scope.{Scope, Top, Open', Held', Covered'}
 use Rattle.c2po_unfold.specs.Values.{Value, Values, leaf, structure, set, none, more, formula_of, leaf_tree}
 use Rattle.c2po_unfold.specs.Weights.{leaf_weight, parts_weight, weight as weight_of}
 use Rattle.c2po_nodes.specs.Faults.{tree_fault, formula_fault}
 use Rattle.c2po_nodes.specs.Tenses.{has_past, has_future}
 use Rattle.c2po_unfold.specs.Facts.{Tells, told_fault}
-use Rattle.c2po_unfold.specs.Covering.{Mode}
-use Rattle.c2po_unfold.specs.Summaries.{IsOfLeaf}
 use Rattle.c2po_unfold.specs.Faults.{values_fault}
-use Rattle.c2po_unfold.specs.Environment.{Env, Known, nothing, fields, value, value_of, bind}
+use Rattle.c2po_unfold.specs.Environment.{Env, Known, nothing, fields, value}
 
 -- a stored value, over facts and parts, represents a value
 abbrev mutual
@@ -67,17 +63,6 @@ pub record Weighs (found : Weighed) (v : Value) : Type 0 where
   pub fault : told_fault found.fault ≡ formula_fault (formula_of v)
   pub past : found.tenses.past ≡ has_past (formula_of v)
   pub future : found.tenses.future ≡ has_future (formula_of v)
-
--- variables within an unfolding represent an environment
-abbrev pub Fits : Mode → Unfolding → Scope → Env → Type 0
-Fits m u Top env = StandsFor u env
-Fits m u (Open' x e _ within _ outer) env =
-    (inner : Env) × (around : Env) × Fits m u within inner × Fits m u outer around
-    × (env ≡ bind x.now (value_of (shape e.now) inner) around)
-Fits m u (Held' x s _ outer) env =
-    (v : Value) × (around : Env) × Holds u s v × Fits m u outer around × (env ≡ bind x.now v around)
-Fits m u (Covered' x s _ outer) env =
-    (v : Value) × (around : Env) × IsOfLeaf m s.now v × Fits m u outer around × (env ≡ bind x.now v around)
 
 -- what an unfolding has stays at its place
 pub record Keeps (old new : Unfolding) : Type 0 where

@@ -1,7 +1,10 @@
 pub mod Values
 pub mod Weights
 pub mod Environment
+pub mod Resolving
 pub mod Holding
+pub mod Scopes
+pub mod Around
 pub mod Heads
 pub mod Operators
 pub mod Summaries

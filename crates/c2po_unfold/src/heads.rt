@@ -1,104 +1,150 @@
 //! What names and picked fields lead to, without a look at what they leave aside.
 
-ghost use Rattle.std.specs.Prelude.{◌≡◌, ℕ, Some, length, position, slice_get, IfOk, IfErr, IfSome};
+ghost use Rattle.std.specs.Prelude.{◌≡◌, ℕ, List, MatchOption, Some, IfSome, length, position, slice_get, IfOk, IfErr};
 ghost use Rattle.std.specs.Str.{bytes_eq};
-ghost use Rattle.c2po_ast.specs.Shape.{shape};
+ghost use Rattle.c2po_unfold.specs.declared.resolved.Row.{Row as Line};
 ghost use Rattle.c2po_unfold.specs.declared.fault.UnfoldFault.TheVariants.{Memory};
 ghost use Rattle.c2po_unfold.specs.Covering.{Mode};
-ghost use Rattle.c2po_unfold.specs.Environment.{Env, fields_in, value_of};
-ghost use Rattle.c2po_unfold.specs.Heads.{Heads, HoldMembers, Names};
-ghost use Rattle.c2po_unfold.specs.Holding.{Fits, Holds, StandsFor};
+ghost use Rattle.c2po_unfold.specs.Environment.{Env, fields_in, value_in};
+ghost use Rattle.c2po_unfold.specs.Heads.{Heads, HoldMembers, IsLed, IsOf, IsOther};
+ghost use Rattle.c2po_unfold.specs.Holding.{Holds, StandsFor};
+ghost use Rattle.c2po_unfold.specs.Resolving.{IsBound, IsPlace, resolved_value};
+ghost use Rattle.c2po_unfold.specs.Scopes.{Fits, Meets, names_of};
+ghost use Rattle.c2po_unfold.specs.declared.unfolding.Unfolding.{Unfolding};
 ghost use Rattle.c2po_unfold.specs.Values.{Value, members, picked};
 
 use crate::fault::deeper;
-use crate::scope::{Head, Named, Scope};
+use crate::resolved::{Hint, Resolved, Row};
+use crate::scope::{Head, Led, Scope};
 use crate::values::{Entry, Location, Stored, Whole};
 use crate::{UnfoldFault, Unfolding};
-use c2po_ast::{Expr, Node};
 use mltl_base::Name;
 
-impl Unfolding {
-    /// The meaning of a declared name.
-    fn declared<'a>(&self, name: &Name) -> Named<'a>
-        ensures { (m : Mode) (env : Env) → StandsFor self.now env → Names m self.now result (env name.now) }
+impl<'a> Scope<'a> {
+    /// What a variable leads to.
+    fn variable(&'a self, name: &Name) -> Led<'a>
+        ensures { (m : Mode) (u : Unfolding) (base env : Env) → Fits m u base self.now env
+            → IsBound (names_of self.now) name.now → IsLed m u base result (value_in (env name.now)) }
     {
-        match self.names.find(name) {
-            None => Named::Nothing,
-            Some(Entry::Struct(i)) => Named::Struct(i),
-            Some(Entry::Value(stored)) => Named::Held(stored),
-        }
-    }
-
-    /// The meaning of a name: the innermost variable of that name, else what is declared.
-    fn look<'a>(&self, scope: &'a Scope<'a>, name: &Name) -> Named<'a>
-        ensures { (m : Mode) (env : Env) → Fits m self.now scope.now env → Names m self.now result (env name.now) }
-    {
-        match scope {
-            Scope::Top => self.declared(name),
+        match self {
+            Scope::Top => Led::Nowhere,
             Scope::Open {
                 name: own,
                 expr,
                 within,
-                outer,
-            } => {
-                if name.bytes() == own.bytes() {
-                    Named::Open(within, expr)
-                } else {
-                    self.look(outer, name)
-                }
-            }
+                ..
+            } if name.bytes() == own.bytes() => Led::Open(within, expr),
             Scope::Held {
                 name: own,
                 stored,
-                outer,
-            } => {
-                if name.bytes() == own.bytes() {
-                    Named::Held(*stored)
-                } else {
-                    self.look(outer, name)
-                }
-            }
+                index,
+                ..
+            } if name.bytes() == own.bytes() => Led::Held(*stored, *index),
             Scope::Covered {
                 name: own,
                 summary,
-                outer,
-            } => {
-                if name.bytes() == own.bytes() {
-                    Named::Covered(summary)
-                } else {
-                    self.look(outer, name)
-                }
-            }
+                ..
+            } if name.bytes() == own.bytes() => Led::Covered(summary),
+            Scope::Open { outer, .. } => outer.variable(name),
+            Scope::Held { outer, .. } => outer.variable(name),
+            Scope::Covered { outer, .. } => outer.variable(name),
         }
     }
 
-    /// The place of a field among those of a struct.
-    fn field_place(&self, scope: &Scope<'_>, whole: &Name, field: &Name) -> Option<usize>
-        ensures { (m : Mode) (env : Env) → Fits m self.now scope.now env
-            → result ≡ position (bytes_eq field.now) (fields_in (env whole.now)) }
+    /// What a column has for a variable's value, where that is one of its members.
+    fn found(&'a self, name: &Name, rows: &[Row]) -> Option<Stored>
+        ensures { (m : Mode) (u : Unfolding) (base env : Env) → Fits m u base self.now env
+            → IsBound (names_of self.now) name.now → IfSome result (λ t. (r : Line) × (i : ℕ)
+            × (slice_get rows.now i ≡ Some r)
+            × Holds u r.member (value_in (env name.now)) × (t ≡ r.found)) }
     {
-        let Named::Struct(i) = self.look(scope, whole) else {
+        let Led::Held(stored, index) = self.variable(name) else {
+            return None;
+        };
+        let row = rows.get(index)?;
+        if row.member.is(stored) {
+            Some(row.found)
+        } else {
+            None
+        }
+    }
+}
+
+impl Unfolding {
+    /// The place of a field among those of a declared struct.
+    pub(crate) fn declared_place(&self, whole: &Name, field: &Name) -> Option<usize>
+        ensures { (base : Env) → StandsFor self.now base
+            → result ≡ position (bytes_eq field.now) (fields_in (base whole.now)) }
+    {
+        let Some(Entry::Struct(i)) = self.names.find(whole) else {
             return None;
         };
         let fields = self.structs.as_slice().get(i as usize)?;
         fields.place(field)
     }
 
-    /// The part of a stored struct's value that a field names; another value is its own part.
-    fn held_part(&self, scope: &Scope<'_>, stored: Stored, field: &Name) -> Stored
-        ensures { (m : Mode) (env : Env) (v : Value) → Fits m self.now scope.now env → Holds self.now stored v
-            → Holds self.now result (picked (λ y. fields_in (env y)) field.now v) }
+    /// The place of a field among those of a struct: a variable of the struct's name hides it.
+    fn field_place(&self, scope: &Scope<'_>, whole: &Name, field: &Name) -> Option<usize>
+        ensures { (m : Mode) (base env : Env) → Fits m self.now base scope.now env
+            → result ≡ position (bytes_eq field.now) (fields_in (env whole.now)) }
+    {
+        match scope {
+            Scope::Top => self.declared_place(whole, field),
+            Scope::Open { name, outer, .. }
+            | Scope::Held { name, outer, .. }
+            | Scope::Covered { name, outer, .. } => {
+                if whole.bytes() == name.bytes() {
+                    None
+                } else {
+                    self.field_place(outer, whole, field)
+                }
+            }
+        }
+    }
+
+    /// The place of a field among those of a struct, at the hint where that is of this struct.
+    fn hinted_place(
+        &self,
+        scope: &Scope<'_>,
+        whole: &Name,
+        field: &Name,
+        hint: &Hint,
+    ) -> Option<usize>
+        ensures { (m : Mode) (base env : Env) → Fits m self.now base scope.now env
+            → IsPlace base (names_of scope.now) field.now hint.now
+            → result ≡ position (bytes_eq field.now) (fields_in (env whole.now)) }
+    {
+        match hint {
+            Hint::Place(owner, place) if owner.bytes() == whole.bytes() => Some(*place),
+            _ => self.field_place(scope, whole, field),
+        }
+    }
+
+    /// The name of the struct that a stored value is of, if it is of one.
+    pub(crate) fn owner(&self, stored: Stored) -> Option<&Name>
+        ensures { MatchOption result (IsOther self.now stored) (λ x. IsOf self.now stored x.now) }
     {
         let Location::Parts(i) = stored.location else {
+            return None;
+        };
+        let parts = self.parts.as_slice().get(i as usize)?;
+        match &parts.whole {
+            Whole::Struct(whole) => Some(whole),
+            Whole::Set => None,
+        }
+    }
+
+    /// The part of a stored struct's value at a place, if it is there; else the value itself.
+    pub(crate) fn part_at(&self, stored: Stored, place: Option<usize>) -> Stored
+        ensures { (fields : List ℕ → List (List ℕ)) (x f : List ℕ) (v : Value)
+            → Holds self.now stored v → IsOf self.now stored x
+            → place ≡ position (bytes_eq f) (fields x)
+            → Holds self.now result (picked fields f v) }
+    {
+        let (Location::Parts(i), Some(place)) = (stored.location, place) else {
             return stored;
         };
         let Some(parts) = self.parts.as_slice().get(i as usize) else {
-            return stored;
-        };
-        let Whole::Struct(whole) = &parts.whole else {
-            return stored;
-        };
-        let Some(place) = self.field_place(scope, whole, field) else {
             return stored;
         };
         match parts.members.as_slice().get(place) {
@@ -107,22 +153,18 @@ impl Unfolding {
         }
     }
 
-    /// The stored value that an expression leads to by names and picked fields, where it does.
-    pub(crate) fn held_value(&self, levels: u32, scope: &Scope<'_>, e: &Expr) -> Option<Stored>
-        ensures { (m : Mode) (env : Env) → Fits m self.now scope.now env
-            → IfSome result (λ s. Holds self.now s (value_of (shape e.now) env)) }
+    /// The part of a stored struct's value that a field names; another value is its own part.
+    fn held_part(&self, scope: &Scope<'_>, stored: Stored, field: &Name, hint: &Hint) -> Stored
+        ensures { (m : Mode) (base env : Env) (v : Value) → Fits m self.now base scope.now env
+            → IsPlace base (names_of scope.now) field.now hint.now → Holds self.now stored v
+            → Holds self.now result (picked (λ y. fields_in (env y)) field.now v) }
     {
-        match &e.node {
-            Node::Ref(name) => match self.look(&*scope, &*name) {
-                Named::Held(stored) => Some(stored),
-                _ => None,
-            },
-            Node::Pick(whole, field) => {
-                let levels = levels.checked_sub(1)?;
-                let stored = (&*self).held_value(levels, &*scope, &*whole)?;
-                Some(self.held_part(&*scope, stored, &*field))
+        match self.owner(stored) {
+            None => stored,
+            Some(whole) => {
+                let place = self.hinted_place(scope, whole, field, hint);
+                self.part_at(stored, place)
             }
-            _ => None,
         }
     }
 
@@ -132,26 +174,37 @@ impl Unfolding {
         &self,
         levels: u32,
         scope: &'a Scope<'a>,
-        e: &'a Expr,
+        e: &'a Resolved,
     ) -> Result<Head<'a>, UnfoldFault>
-        ensures head { (m : Mode) (env : Env) → Fits m self.now scope.now env
-            → IfOk result (λ h. Heads m self.now h (value_of (shape e.now) env)) }
+        ensures head { (m : Mode) (base env : Env) → Meets m self.now base scope.now env e.now
+            → IfOk result (λ h. Heads m self.now base h (resolved_value e.now env)) }
         ensures memory { IfErr result (λ why. why ≡ Memory) }
     {
-        let levels = deeper(levels)?;
-        match &e.node {
-            Node::Ref(name) => match self.look(scope, name) {
-                Named::Open(within, expr) => self.head(levels, within, expr),
-                Named::Held(stored) => Ok(Head::Held(stored)),
-                Named::Covered(summary) => Ok(Head::Covered(summary)),
-                Named::Nothing | Named::Struct(_) => Ok(Head::Nothing(scope, e)),
+        match e {
+            Resolved::Known(_, stored) | Resolved::Found(_, stored) => Ok(Head::Held(*stored)),
+            Resolved::Variable(name) => match scope.variable(name) {
+                Led::Open(within, expr) => {
+                    let levels = deeper(levels)?;
+                    self.head(levels, within, expr)
+                }
+                Led::Held(stored, _) => Ok(Head::Held(stored)),
+                Led::Covered(summary) => Ok(Head::Covered(summary)),
+                Led::Nowhere => Ok(Head::Nothing(scope, e)),
             },
-            Node::Pick(whole, field) => {
+            Resolved::Column(e, name, rows) => match scope.found(name, rows.as_slice()) {
+                Some(found) => Ok(Head::Held(found)),
+                None => {
+                    let levels = deeper(levels)?;
+                    self.head(levels, scope, e)
+                }
+            },
+            Resolved::Part(whole, field, hint) => {
+                let levels = deeper(levels)?;
                 let whole = self.head(levels, scope, whole)?;
-                self.part(levels, scope, whole, field)
+                self.part(levels, scope, whole, field, hint)
             }
-            Node::Build(name, parts) => Ok(Head::Struct(scope, e, name, parts.as_slice())),
-            Node::Group(members) => Ok(Head::Set(scope, e, members.as_slice())),
+            Resolved::Build(name, parts) => Ok(Head::Struct(scope, e, name, parts.as_slice())),
+            Resolved::Group(members) => Ok(Head::Set(scope, e, members.as_slice())),
             _ => Ok(Head::Leaf(scope, e)),
         }
     }
@@ -164,16 +217,18 @@ impl Unfolding {
         scope: &'a Scope<'a>,
         whole: Head<'a>,
         field: &Name,
+        hint: &Hint,
     ) -> Result<Head<'a>, UnfoldFault>
-        ensures head { (m : Mode) (env : Env) (v : Value) → Fits m self.now scope.now env
-            → Heads m self.now whole.entry v
-            → IfOk result (λ h. Heads m self.now h (picked (λ y. fields_in (env y)) field.now v)) }
+        ensures head { (m : Mode) (base env : Env) (v : Value) → Fits m self.now base scope.now env
+            → IsPlace base (names_of scope.now) field.now hint.now
+            → Heads m self.now base whole.entry v → IfOk result
+            (λ h. Heads m self.now base h (picked (λ y. fields_in (env y)) field.now v)) }
         ensures memory { IfErr result (λ why. why ≡ Memory) }
     {
         let levels = deeper(levels)?;
         match whole {
             Head::Struct(within, _, name, parts) => {
-                let Some(place) = self.field_place(scope, name, field) else {
+                let Some(place) = self.hinted_place(scope, name, field, hint) else {
                     return Ok(whole);
                 };
                 match parts.get(place) {
@@ -181,14 +236,15 @@ impl Unfolding {
                     None => Ok(whole),
                 }
             }
-            Head::Held(stored) => Ok(Head::Held(self.held_part(scope, stored, field))),
+            Head::Held(stored) => Ok(Head::Held(self.held_part(scope, stored, field, hint))),
             Head::Nothing(..) | Head::Set(..) | Head::Leaf(..) | Head::Covered(_) => Ok(whole),
         }
     }
 
     /// The number of members of a set; nothing else has any.
     pub(crate) fn member_count(&self, set: &Head<'_>) -> usize
-        ensures { (m : Mode) (v : Value) → Heads m self.now set.now v → result ≡ length (members v) }
+        ensures { (m : Mode) (base : Env) (v : Value) → Heads m self.now base set.now v
+            → result ≡ length (members v) }
     {
         match *set {
             Head::Set(_, _, members) => members.len(),
@@ -198,7 +254,7 @@ impl Unfolding {
     }
 
     /// The members of a stored set; nothing else has any.
-    fn held_members(&self, stored: Stored) -> &[Stored]
+    pub(crate) fn held_members(&self, stored: Stored) -> &[Stored]
         ensures { (v : Value) → Holds self.now stored v → HoldMembers self.now result.now v }
     {
         let Location::Parts(i) = stored.location else {
@@ -220,9 +276,9 @@ impl Unfolding {
         set: &Head<'a>,
         i: usize,
     ) -> Result<Head<'a>, UnfoldFault>
-        ensures head { (m : Mode) (s v : Value) → Heads m self.now set.now s
+        ensures head { (m : Mode) (base : Env) (s v : Value) → Heads m self.now base set.now s
             → slice_get (members s) i ≡ Some v
-            → IfOk result (λ h. Heads m self.now h v) }
+            → IfOk result (λ h. Heads m self.now base h v) }
         ensures memory { IfErr result (λ why. why ≡ Memory) }
     {
         match *set {

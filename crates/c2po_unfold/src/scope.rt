@@ -1,15 +1,16 @@
 //! Variables of quantifiers, which are members of sets that aren't unfolded yet.
 
+ghost use Rattle.std.specs.Prelude.{◌≡◌, ◌∷◌};
 ghost use Rattle.c2po_unfold.specs.declared.unfolding.Unfolding.{Unfolding};
 ghost use Rattle.c2po_unfold.specs.Covering.{Mode};
 ghost use Rattle.c2po_unfold.specs.Environment.{Env, bind};
 ghost use Rattle.c2po_unfold.specs.Heads.{Heads};
-ghost use Rattle.c2po_unfold.specs.Holding.{Fits};
+ghost use Rattle.c2po_unfold.specs.Scopes.{Fits, names_of};
 ghost use Rattle.c2po_unfold.specs.Values.{Value};
 
+use crate::resolved::Resolved;
 use crate::summary::Summary;
 use crate::values::Stored;
-use c2po_ast::Expr;
 use mltl_base::Name;
 
 /// The variables around an expression, the innermost first.
@@ -19,7 +20,7 @@ pub enum Scope<'a> {
     /// The variable is an expression, which has a separate scope.
     Open {
         name: &'a Name,
-        expr: &'a Expr,
+        expr: &'a Resolved,
         within: &'a Scope<'a>,
         outer: &'a Scope<'a>,
     },
@@ -27,6 +28,8 @@ pub enum Scope<'a> {
     Held {
         name: &'a Name,
         stored: Stored,
+        /// Which member of the set it is.
+        index: usize,
         outer: &'a Scope<'a>,
     },
     /// The variable is any integer or formula of which this is known.
@@ -37,21 +40,21 @@ pub enum Scope<'a> {
     },
 }
 
-/// Where an expression stands: the variables around it, and how deep it may still be nested.
+/// Where an expression is: the variables around it, and how deep it may still be nested.
 #[derive(Clone, Copy)]
 pub struct Site<'a> {
     pub depth: u32,
     pub scope: &'a Scope<'a>,
 }
 
-/// The meaning of a name.
+/// What a variable leads to.
 #[derive(Clone, Copy)]
-pub enum Named<'a> {
-    Nothing,
-    /// A struct, by its number.
-    Struct(u32),
-    Open(&'a Scope<'a>, &'a Expr),
-    Held(Stored),
+pub enum Led<'a> {
+    /// There is no such variable.
+    Nowhere,
+    Open(&'a Scope<'a>, &'a Resolved),
+    /// A stored value, with which member of its set it is.
+    Held(Stored, usize),
     /// An integer or a formula of which this is known.
     Covered(&'a Summary),
 }
@@ -59,14 +62,14 @@ pub enum Named<'a> {
 /// A value as far as it is looked at: what names and picked fields lead to.
 #[derive(Clone, Copy)]
 pub enum Head<'a> {
-    /// A name without a value.
-    Nothing(&'a Scope<'a>, &'a Expr),
+    /// A variable that isn't there, which no resolved expression has.
+    Nothing(&'a Scope<'a>, &'a Resolved),
     /// An expression that is a struct's value, with the struct's name and the parts.
-    Struct(&'a Scope<'a>, &'a Expr, &'a Name, &'a [Expr]),
+    Struct(&'a Scope<'a>, &'a Resolved, &'a Name, &'a [Resolved]),
     /// An expression that is a set, with the members.
-    Set(&'a Scope<'a>, &'a Expr, &'a [Expr]),
+    Set(&'a Scope<'a>, &'a Resolved, &'a [Resolved]),
     /// A number, a Boolean, an operator or a quantifier.
-    Leaf(&'a Scope<'a>, &'a Expr),
+    Leaf(&'a Scope<'a>, &'a Resolved),
     Held(Stored),
     /// An integer or a formula of which this is known.
     Covered(&'a Summary),
@@ -75,9 +78,16 @@ pub enum Head<'a> {
 impl<'a> Scope<'a> {
     /// The scope in which a variable is a value, by what that leads to: this is found once, however often the variable
     /// is used.
-    pub(crate) fn bound(name: &'a Name, head: Head<'a>, outer: &'a Scope<'a>) -> Scope<'a>
-        ensures { (m : Mode) (u : Unfolding) (env : Env) (v : Value) → Fits m u outer.now env
-            → Heads m u head.entry v → Fits m u result (bind name.now v env) }
+    pub(crate) fn bound(
+        name: &'a Name,
+        head: Head<'a>,
+        index: usize,
+        outer: &'a Scope<'a>,
+    ) -> Scope<'a>
+        ensures names { names_of result ≡ name.now ∷ names_of outer.now }
+        ensures fits { (m : Mode) (u : Unfolding) (base env : Env) (v : Value)
+            → Fits m u base outer.now env → Heads m u base head.entry v
+            → Fits m u base result (bind name.now v env) }
     {
         match head {
             Head::Nothing(within, expr)
@@ -92,6 +102,7 @@ impl<'a> Scope<'a> {
             Head::Held(stored) => Scope::Held {
                 name,
                 stored,
+                index,
                 outer,
             },
             Head::Covered(summary) => Scope::Covered {

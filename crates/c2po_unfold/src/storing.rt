@@ -2,20 +2,23 @@
 
 ghost use Rattle.std.specs.Prelude.{◌≡◌, ◌+◌, ◌<◌, ◌≤◌, IfOk, IfErr, OnOk};
 ghost use Rattle.mltl_base.specs.declared.limits.TheConstants.{MAX_WEIGHT};
-ghost use Rattle.c2po_ast.specs.Shape.{shape, shapes};
 ghost use Rattle.c2po_unfold.specs.declared.fault.UnfoldFault.TheVariants.{Heavy};
 ghost use Rattle.c2po_unfold.specs.Covering.{exact};
-ghost use Rattle.c2po_unfold.specs.Environment.{Env, value_of, values_of};
-ghost use Rattle.c2po_unfold.specs.Holding.{Fits, HoldAll, Holds, IsLater};
+ghost use Rattle.c2po_unfold.specs.Environment.{Env};
+ghost use Rattle.c2po_unfold.specs.Heads.{Heads};
+ghost use Rattle.c2po_unfold.specs.Holding.{HoldAll, Holds, IsLater};
+ghost use Rattle.c2po_unfold.specs.Resolving.{AllResolved, resolved_value, resolved_values};
+ghost use Rattle.c2po_unfold.specs.Scopes.{Fits, Meets, names_of};
+ghost use Rattle.c2po_unfold.specs.Values.{Value};
 ghost use Rattle.c2po_unfold.specs.Weights.{parts_weight, weight};
 
 use crate::fact::Fact;
 use crate::fault::{deeper, less};
+use crate::resolved::Resolved;
 use crate::scope::{Head, Site};
 use crate::summary::Summary;
 use crate::values::{Stored, Whole};
 use crate::{UnfoldFault, Unfolding};
-use c2po_ast::Expr;
 use mltl_base::List;
 use std::alloc::Global;
 
@@ -26,19 +29,40 @@ impl Unfolding {
         &mut self,
         alloc: Global,
         at: Site<'_>,
-        e: &Expr,
+        e: &Resolved,
         room: u32,
     ) -> Result<Stored, UnfoldFault>
         requires { room ≤ MAX_WEIGHT }
         ensures later { OnOk result (IsLater self.old self.new) }
         ensures light { IfOk result (λ s. s.weight ≤ room) }
-        ensures holds { (env : Env) → Fits exact self.old at.entry.scope.now env
-            → IfOk result (λ s. Holds self.new s (value_of (shape e.now) env)) }
-        ensures heavy { (env : Env) → Fits exact self.old at.entry.scope.now env
-            → IfErr result (λ why. why ≡ Heavy → room < weight (value_of (shape e.now) env)) }
+        ensures holds { (base env : Env) → Meets exact self.old base at.entry.scope.now env e.now
+            → IfOk result (λ s. Holds self.new s (resolved_value e.now env)) }
+        ensures heavy { (base env : Env) → Meets exact self.old base at.entry.scope.now env e.now
+            → IfErr result (λ why. why ≡ Heavy → room < weight (resolved_value e.now env)) }
     {
         let depth = deeper(at.depth)?;
-        match self.head(depth, at.scope, e)? {
+        let head = self.head(depth, at.scope, e)?;
+        self.store_head(alloc, depth, head, room)
+    }
+
+    /// Stores the value that an expression leads to.
+    #[cycle(storing)]
+    fn store_head(
+        &mut self,
+        alloc: Global,
+        depth: u32,
+        head: Head<'_>,
+        room: u32,
+    ) -> Result<Stored, UnfoldFault>
+        requires { room ≤ MAX_WEIGHT }
+        ensures later { OnOk result (IsLater self.old self.new) }
+        ensures light { IfOk result (λ s. s.weight ≤ room) }
+        ensures holds { (base : Env) (v : Value) → Heads exact self.old base head.entry v
+            → IfOk result (λ s. Holds self.new s v) }
+        ensures heavy { (base : Env) (v : Value) → Heads exact self.old base head.entry v
+            → IfErr result (λ why. why ≡ Heavy → room < weight v) }
+    {
+        match head {
             Head::Nothing(..) => Ok(self.add_leaf(Summary::token(Fact::truth(), room)?)?),
             Head::Held(stored) => {
                 less(room, stored.weight)?;
@@ -49,8 +73,7 @@ impl Unfolding {
                 Ok(self.add_leaf(*summary)?)
             }
             Head::Struct(scope, _, name, parts) => {
-                let within = Site { depth, scope };
-                let (members, weight) = self.store_all(alloc, within, parts, room)?;
+                let (members, weight) = self.store_all(alloc, Site { depth, scope }, parts, room)?;
                 Ok(self.add_parts(Whole::Struct(name.copy()), members, weight)?)
             }
             Head::Set(scope, _, members) => {
@@ -59,7 +82,7 @@ impl Unfolding {
                 Ok(self.add_parts(Whole::Set, members, weight)?)
             }
             Head::Leaf(scope, e) => {
-                let found = self.operator(Site { depth, scope }, e, room)?;
+                let found = self.operation(Site { depth, scope }, e, room)?;
                 Ok(self.add_leaf(found)?)
             }
         }
@@ -71,19 +94,22 @@ impl Unfolding {
         &mut self,
         alloc: Global,
         at: Site<'_>,
-        es: &[Expr],
+        es: &[Resolved],
         room: u32,
     ) -> Result<(List<Stored>, u32), UnfoldFault>
         requires { room ≤ MAX_WEIGHT }
         ensures later { OnOk result (IsLater self.old self.new) }
         ensures light { IfOk result (λ r. r.1 ≤ room) }
-        ensures holds { (env : Env) → Fits exact self.old at.entry.scope.now env
-            → IfOk result (λ r. HoldAll self.new r.0 (values_of (shapes es.now) env)) }
-        ensures weight { (env : Env) → Fits exact self.old at.entry.scope.now env
-            → IfOk result (λ r. r.1 ≡ 1 + parts_weight (values_of (shapes es.now) env)) }
-        ensures heavy { (env : Env) → Fits exact self.old at.entry.scope.now env
+        ensures holds { (base env : Env) → Fits exact self.old base at.entry.scope.now env
+            → AllResolved self.old base (names_of at.entry.scope.now) es.now
+            → IfOk result (λ r. HoldAll self.new r.0 (resolved_values es.now env)) }
+        ensures weight { (base env : Env) → Fits exact self.old base at.entry.scope.now env
+            → AllResolved self.old base (names_of at.entry.scope.now) es.now
+            → IfOk result (λ r. r.1 ≡ 1 + parts_weight (resolved_values es.now env)) }
+        ensures heavy { (base env : Env) → Fits exact self.old base at.entry.scope.now env
+            → AllResolved self.old base (names_of at.entry.scope.now) es.now
             → IfErr result (λ why. why ≡ Heavy
-            → room < 1 + parts_weight (values_of (shapes es.now) env)) }
+            → room < 1 + parts_weight (resolved_values es.now env)) }
     {
         let mut left = less(room, 1)?;
         let mut members = List::new(alloc);

@@ -2,20 +2,21 @@
 
 ghost use Rattle.std.specs.Prelude.{◌≡◌, ◌+◌, ◌<◌, ◌≤◌, true, length, map, sum_by, slice_get, Some, None, IfOk, IfErr, IfSome};
 ghost use Rattle.mltl_base.specs.declared.limits.TheConstants.{MAX_WEIGHT};
-ghost use Rattle.c2po_ast.specs.Shape.{shape, shapes};
 ghost use Rattle.c2po_unfold.specs.Facts.{Tells};
 ghost use Rattle.c2po_nodes.specs.Nodes.{formula};
 ghost use Rattle.c2po_unfold.specs.declared.fault.UnfoldFault.TheVariants.{Heavy};
 ghost use Rattle.c2po_unfold.specs.declared.fact.Fact.TheVariants.{Parts};
 ghost use Rattle.c2po_unfold.specs.declared.scope.Head.TheVariants.{Held};
 ghost use Rattle.c2po_unfold.specs.declared.scope.Scope.{Scope as Variables};
-ghost use Rattle.c2po_unfold.specs.declared.operators.Bodies.{Bodies as Operands};
-ghost use Rattle.c2po_unfold.specs.Bodies.{IsOfBody};
+ghost use Rattle.c2po_unfold.specs.declared.resolved.Quantified.{Quantified as Operands};
+ghost use Rattle.c2po_unfold.specs.Bodies.{IsOfBody, MeetsAll, MeetsBody};
 ghost use Rattle.c2po_unfold.specs.Covering.{Mode, Says, covering};
-ghost use Rattle.c2po_unfold.specs.Environment.{Env, value_of, values_of};
-ghost use Rattle.c2po_unfold.specs.Heads.{Heads, is_operator};
-ghost use Rattle.c2po_unfold.specs.Operators.{binary_value, bodies_of, body_value, unary_value};
-ghost use Rattle.c2po_unfold.specs.Holding.{Fits, Holds};
+ghost use Rattle.c2po_unfold.specs.Environment.{Env};
+ghost use Rattle.c2po_unfold.specs.Heads.{Heads};
+ghost use Rattle.c2po_unfold.specs.Operators.{binary_value, unary_value};
+ghost use Rattle.c2po_unfold.specs.Holding.{Holds};
+ghost use Rattle.c2po_unfold.specs.Resolving.{AllResolved, IsResolved, is_operation, bodies_of, resolved_body, resolved_value, resolved_values};
+ghost use Rattle.c2po_unfold.specs.Scopes.{Fits, Meets, names_of};
 ghost use Rattle.c2po_unfold.specs.Summaries.{IsOfLeaf, IsSummary, gathered};
 ghost use Rattle.c2po_unfold.specs.Values.{Value, counted, formula_of, connected_all, members, tree_in};
 ghost use Rattle.c2po_unfold.specs.Weights.{parts_weight, weight};
@@ -23,12 +24,12 @@ ghost use Rattle.c2po_unfold.specs.Weights.{parts_weight, weight};
 use crate::counting::{counted_fact, gates_weight};
 use crate::fact::Fact;
 use crate::fault::{deeper, less};
-use crate::operators::{BinaryOp, Bodies, Operation, UnaryOp, is_operator};
+use crate::operators::{BinaryOp, UnaryOp};
+use crate::resolved::{Quantified, Resolved};
 use crate::scope::{Head, Scope, Site};
 use crate::summary::Summary;
 use crate::values::{Location, Stored};
 use crate::{UnfoldFault, Unfolding};
-use c2po_ast::{Expr, Node};
 use mltl_base::{CountOp, LogicOp};
 
 /// What is known of the bodies of a quantifier together: their number, what is known of their formulas from the last to
@@ -64,13 +65,13 @@ pub(crate) struct BodyFact {
     summary: Summary,
 }
 
-/// What is known of a number that stands in the text, if it is one.
-fn number_summary(e: &Expr) -> Option<Summary>
+/// What is known of a number in the text, if it is one.
+fn number_summary(e: &Resolved) -> Option<Summary>
     ensures { (m : Mode) (env : Env)
-        → IfSome result (λ s. IsOfLeaf m s (value_of (shape e.now) env)) }
+        → IfSome result (λ s. IsOfLeaf m s (resolved_value e.now env)) }
 {
-    match &e.node {
-        Node::Number(n) => Some(Summary {
+    match e {
+        Resolved::Number(n) => Some(Summary {
             weight: 1,
             fact: Fact::constant(*n),
         }),
@@ -142,7 +143,7 @@ impl Unfolding {
 
     /// What is known of what a member leads to, where that is an integer or a formula that needs no check.
     fn known_member(&self, head: &Head<'_>) -> Option<Summary>
-        ensures { (m : Mode) (v : Value) → Heads m self.now head.now v
+        ensures { (m : Mode) (base : Env) (v : Value) → Heads m self.now base head.now v
             → IfSome result (λ s. IsOfLeaf m s v) }
     {
         match *head {
@@ -166,7 +167,7 @@ impl Unfolding {
 
     /// What covers the members of a set and the first one in any case, where they are many.
     fn cover(&self, depth: u32, set: &Head<'_>, first: &Head<'_>) -> Option<Summary>
-        ensures { (m : Mode) (v : Value) → Heads m self.now first.now v
+        ensures { (m : Mode) (base : Env) (v : Value) → Heads m self.now base first.now v
             → IfSome result (λ s. IsOfLeaf covering s v) }
     {
         if self.member_count(set) < WORTH_TRYING {
@@ -183,9 +184,10 @@ impl Unfolding {
 
     /// Whether what is known of a body is so for what a member leads to.
     fn is_known(&self, known: &BodyFact, head: &Head<'_>) -> bool
-        ensures { (m : Mode) (scope : Variables) (q : Operands) (env : Env) (v : Value)
-            → result ≡ true → IsOfBody self.now scope q known.now → Fits m self.now scope env
-            → Heads m self.now head.now v → IsSummary m known.now.summary (body_value q env v) }
+        ensures { (m : Mode) (scope : Variables) (q : Operands) (base env : Env) (v : Value)
+            → result ≡ true → IsOfBody self.now scope q known.now
+            → MeetsBody m self.now base scope env q → Heads m self.now base head.now v
+            → IsSummary m known.now.summary (resolved_body q env v) }
     {
         if known.is_of(head) {
             return true;
@@ -198,27 +200,44 @@ impl Unfolding {
 
     /// What is known of the value of an expression.
     #[cycle(summing)]
-    pub(crate) fn summary(&self, at: Site<'_>, e: &Expr, room: u32) -> Result<Summary, UnfoldFault>
+    pub(crate) fn summary(
+        &self,
+        at: Site<'_>,
+        e: &Resolved,
+        room: u32,
+    ) -> Result<Summary, UnfoldFault>
         requires { room ≤ MAX_WEIGHT }
         ensures light { IfOk result (λ s. s.weight ≤ room) }
-        ensures holds { (m : Mode) (env : Env) → Fits m self.now at.entry.scope.now env
-            → IfOk result (λ s. IsSummary m s (value_of (shape e.now) env)) }
-        ensures heavy { (m : Mode) (env : Env) → Fits m self.now at.entry.scope.now env
-            → IfErr result (λ why. why ≡ Heavy → room < weight (value_of (shape e.now) env)) }
+        ensures holds { (m : Mode) (base env : Env)
+            → Meets m self.now base at.entry.scope.now env e.now
+            → IfOk result (λ s. IsSummary m s (resolved_value e.now env)) }
+        ensures heavy { (m : Mode) (base env : Env)
+            → Meets m self.now base at.entry.scope.now env e.now
+            → IfErr result (λ why. why ≡ Heavy → room < weight (resolved_value e.now env)) }
     {
         let depth = deeper(at.depth)?;
-        if is_operator(e) {
+        if e.is_operation() {
             let within = Site {
                 depth,
                 scope: at.scope,
             };
-            return self.operator(within, e, room);
+            return self.operation(within, e, room);
         }
-        if let Some(stored) = self.held_value(depth, at.scope, e) {
-            less(room, stored.weight)?;
-            return Ok(self.held(stored));
-        }
-        match self.head(depth, at.scope, e)? {
+        let head = self.head(depth, at.scope, e)?;
+        self.head_summary(depth, head, room)
+    }
+
+    /// What is known of the value that an expression leads to.
+    #[cycle(summing)]
+    fn head_summary(&self, depth: u32, head: Head<'_>, room: u32) -> Result<Summary, UnfoldFault>
+        requires { room ≤ MAX_WEIGHT }
+        ensures light { IfOk result (λ s. s.weight ≤ room) }
+        ensures holds { (m : Mode) (base : Env) (v : Value) → Heads m self.now base head.entry v
+            → IfOk result (λ s. IsSummary m s v) }
+        ensures heavy { (m : Mode) (base : Env) (v : Value) → Heads m self.now base head.entry v
+            → IfErr result (λ why. why ≡ Heavy → room < weight v) }
+    {
+        match head {
             Head::Nothing(..) => Summary::token(Fact::truth(), room),
             Head::Held(stored) => {
                 less(room, stored.weight)?;
@@ -234,21 +253,28 @@ impl Unfolding {
             Head::Set(scope, _, members) => {
                 self.parts_summary(Site { depth, scope }, members, room)
             }
-            Head::Leaf(scope, e) => self.operator(Site { depth, scope }, e, room),
+            Head::Leaf(scope, e) => self.operation(Site { depth, scope }, e, room),
         }
     }
 
     /// What is known of a struct's value or a set with these parts: it weighs what they weigh, and one more.
     #[cycle(summing)]
-    fn parts_summary(&self, at: Site<'_>, es: &[Expr], room: u32) -> Result<Summary, UnfoldFault>
+    fn parts_summary(
+        &self,
+        at: Site<'_>,
+        es: &[Resolved],
+        room: u32,
+    ) -> Result<Summary, UnfoldFault>
         requires { room ≤ MAX_WEIGHT }
         ensures light { IfOk result (λ s. s.weight ≤ room) }
         ensures parts { IfOk result (λ s. s.fact ≡ Parts) }
-        ensures weight { (m : Mode) (env : Env) → Fits m self.now at.entry.scope.now env
-            → IfOk result (λ s. s.weight ≡ 1 + parts_weight (values_of (shapes es.now) env)) }
-        ensures heavy { (m : Mode) (env : Env) → Fits m self.now at.entry.scope.now env
+        ensures weight { (m : Mode) (base env : Env) → Fits m self.now base at.entry.scope.now env
+            → AllResolved self.now base (names_of at.entry.scope.now) es.now
+            → IfOk result (λ s. s.weight ≡ 1 + parts_weight (resolved_values es.now env)) }
+        ensures heavy { (m : Mode) (base env : Env) → Fits m self.now base at.entry.scope.now env
+            → AllResolved self.now base (names_of at.entry.scope.now) es.now
             → IfErr result (λ why. why ≡ Heavy
-            → room < 1 + parts_weight (values_of (shapes es.now) env)) }
+            → room < 1 + parts_weight (resolved_values es.now env)) }
     {
         let mut left = less(room, 1)?;
         for e in es {
@@ -263,38 +289,52 @@ impl Unfolding {
 
     /// What is known of a number, a Boolean, an operator or a quantifier.
     #[cycle(summing)]
-    pub(crate) fn operator(&self, at: Site<'_>, e: &Expr, room: u32) -> Result<Summary, UnfoldFault>
+    pub(crate) fn operation(
+        &self,
+        at: Site<'_>,
+        e: &Resolved,
+        room: u32,
+    ) -> Result<Summary, UnfoldFault>
         requires { room ≤ MAX_WEIGHT }
         ensures light { IfOk result (λ s. s.weight ≤ room) }
-        ensures holds { (m : Mode) (env : Env) → Fits m self.now at.entry.scope.now env
-            → is_operator (shape e.now) ≡ true
-            → IfOk result (λ s. IsSummary m s (value_of (shape e.now) env)) }
-        ensures heavy { (m : Mode) (env : Env) → Fits m self.now at.entry.scope.now env
-            → is_operator (shape e.now) ≡ true
-            → IfErr result (λ why. why ≡ Heavy → room < weight (value_of (shape e.now) env)) }
+        ensures holds { (m : Mode) (base env : Env)
+            → Meets m self.now base at.entry.scope.now env e.now → is_operation e.now ≡ true
+            → IfOk result (λ s. IsSummary m s (resolved_value e.now env)) }
+        ensures heavy { (m : Mode) (base env : Env)
+            → Meets m self.now base at.entry.scope.now env e.now → is_operation e.now ≡ true
+            → IfErr result (λ why. why ≡ Heavy → room < weight (resolved_value e.now env)) }
     {
-        match Operation::of(e) {
-            Operation::Number(n) => Summary::token(Fact::constant(n), room),
-            Operation::Truth(_) => Summary::token(Fact::truth(), room),
-            Operation::Unary(op, a) => self.unary(at, op, a, room),
-            Operation::Binary(op, a, b) => self.binary(at, op, a, b, room),
-            Operation::Joined(op, bodies) => self.joined_bodies(at, op, bodies, room),
-            Operation::Counted(op, number, bodies) => {
-                self.counted_bodies(at, op, number, bodies, room)
+        match e {
+            Resolved::Number(n) => Summary::token(Fact::constant(*n), room),
+            Resolved::Unary(op, a) => self.unary(at, *op, a, room),
+            Resolved::Binary(op, a, b) => self.binary(at, *op, a, b, room),
+            Resolved::Joined(op, name, set, body) => {
+                self.joined_bodies(at, *op, Quantified { name, set, body }, room)
             }
+            Resolved::Counted(op, number, name, set, body) => {
+                self.counted_bodies(at, *op, *number, Quantified { name, set, body }, room)
+            }
+            _ => Summary::token(Fact::truth(), room),
         }
     }
 
     /// What is known of an operator over one operand.
     #[cycle(summing)]
-    fn unary(&self, at: Site<'_>, op: UnaryOp, a: &Expr, room: u32) -> Result<Summary, UnfoldFault>
+    fn unary(
+        &self,
+        at: Site<'_>,
+        op: UnaryOp,
+        a: &Resolved,
+        room: u32,
+    ) -> Result<Summary, UnfoldFault>
         requires { room ≤ MAX_WEIGHT }
         ensures light { IfOk result (λ s. s.weight ≤ room) }
-        ensures holds { (m : Mode) (env : Env) → Fits m self.now at.entry.scope.now env
-            → IfOk result (λ s. IsSummary m s (unary_value op (value_of (shape a.now) env))) }
-        ensures heavy { (m : Mode) (env : Env) → Fits m self.now at.entry.scope.now env
-            → IfErr result (λ why. why ≡ Heavy
-            → room < weight (unary_value op (value_of (shape a.now) env))) }
+        ensures holds { (m : Mode) (base env : Env)
+            → Meets m self.now base at.entry.scope.now env a.now
+            → IfOk result (λ s. IsSummary m s (unary_value op (resolved_value a.now env))) }
+        ensures heavy { (m : Mode) (base env : Env)
+            → Meets m self.now base at.entry.scope.now env a.now → IfErr result
+            (λ why. why ≡ Heavy → room < weight (unary_value op (resolved_value a.now env))) }
     {
         let left = less(room, 1)?;
         let a = self.summary(at, a, left)?;
@@ -307,18 +347,22 @@ impl Unfolding {
         &self,
         at: Site<'_>,
         op: BinaryOp,
-        a: &Expr,
-        b: &Expr,
+        a: &Resolved,
+        b: &Resolved,
         room: u32,
     ) -> Result<Summary, UnfoldFault>
         requires { room ≤ MAX_WEIGHT }
         ensures light { IfOk result (λ s. s.weight ≤ room) }
-        ensures holds { (m : Mode) (env : Env) → Fits m self.now at.entry.scope.now env
+        ensures holds { (m : Mode) (base env : Env)
+            → Meets m self.now base at.entry.scope.now env a.now
+            → Meets m self.now base at.entry.scope.now env b.now
             → IfOk result (λ s. IsSummary m s
-            (binary_value op (value_of (shape a.now) env) (value_of (shape b.now) env))) }
-        ensures heavy { (m : Mode) (env : Env) → Fits m self.now at.entry.scope.now env
+            (binary_value op (resolved_value a.now env) (resolved_value b.now env))) }
+        ensures heavy { (m : Mode) (base env : Env)
+            → Meets m self.now base at.entry.scope.now env a.now
+            → Meets m self.now base at.entry.scope.now env b.now
             → IfErr result (λ why. why ≡ Heavy → room < weight
-            (binary_value op (value_of (shape a.now) env) (value_of (shape b.now) env))) }
+            (binary_value op (resolved_value a.now env) (resolved_value b.now env))) }
     {
         let left = less(room, 1)?;
         let a = self.summary(at, a, left)?;
@@ -332,15 +376,16 @@ impl Unfolding {
         &self,
         at: Site<'_>,
         op: LogicOp,
-        bodies: Bodies<'_>,
+        bodies: Quantified<'_>,
         room: u32,
     ) -> Result<Summary, UnfoldFault>
         requires { room ≤ MAX_WEIGHT }
         ensures light { IfOk result (λ s. s.weight ≤ room) }
-        ensures holds { (m : Mode) (env : Env) → Fits m self.now at.entry.scope.now env
+        ensures holds { (m : Mode) (base env : Env)
+            → MeetsAll m self.now base at.entry.scope.now env bodies.entry
             → IfOk result (λ s. IsSummary m s (connected_all op (bodies_of bodies.entry env))) }
-        ensures heavy { (m : Mode) (env : Env) → Fits m self.now at.entry.scope.now env
-            → IfErr result
+        ensures heavy { (m : Mode) (base env : Env)
+            → MeetsAll m self.now base at.entry.scope.now env bodies.entry → IfErr result
             (λ why. why ≡ Heavy → room < weight (connected_all op (bodies_of bodies.entry env))) }
     {
         let set = self.head(at.depth, at.scope, bodies.set)?;
@@ -366,7 +411,7 @@ impl Unfolding {
     fn body(
         &self,
         at: Site<'_>,
-        bodies: Bodies<'_>,
+        bodies: Quantified<'_>,
         set: &Head<'_>,
         i: usize,
         last: BodyFact,
@@ -375,16 +420,15 @@ impl Unfolding {
         requires bounded { room ≤ MAX_WEIGHT }
         requires known { IsOfBody self.now at.scope.now bodies last }
         ensures light { IfOk result (λ r. r.summary.weight ≤ room) }
-        ensures holds { (m : Mode) (env : Env) (s v : Value) → Fits m self.now at.entry.scope.now env
-            → Heads m self.now set.now s
-            → slice_get (members s) i ≡ Some v
-            → IfOk result (λ r. IsSummary m r.summary (body_value bodies.entry env v)) }
-        ensures known { IfOk result (λ r.
-            IsOfBody self.now at.entry.scope.now bodies.entry r) }
-        ensures heavy { (m : Mode) (env : Env) (s v : Value) → Fits m self.now at.entry.scope.now env
-            → Heads m self.now set.now s
-            → slice_get (members s) i ≡ Some v
-            → IfErr result (λ why. why ≡ Heavy → room < weight (body_value bodies.entry env v)) }
+        ensures holds { (m : Mode) (base env : Env) (s v : Value)
+            → MeetsBody m self.now base at.entry.scope.now env bodies.entry
+            → Heads m self.now base set.now s → slice_get (members s) i ≡ Some v
+            → IfOk result (λ r. IsSummary m r.summary (resolved_body bodies.entry env v)) }
+        ensures known { IfOk result (λ r. IsOfBody self.now at.entry.scope.now bodies.entry r) }
+        ensures heavy { (m : Mode) (base env : Env) (s v : Value)
+            → MeetsBody m self.now base at.entry.scope.now env bodies.entry
+            → Heads m self.now base set.now s → slice_get (members s) i ≡ Some v
+            → IfErr result (λ why. why ≡ Heavy → room < weight (resolved_body bodies.entry env v)) }
     {
         let head = self.member(at.depth, set, i)?;
         if self.is_known(&last, &head) {
@@ -396,15 +440,10 @@ impl Unfolding {
                 return Ok(known);
             }
         }
-        let scope = &Scope::bound(&*bodies.name, head, &*at.scope);
-        let within = Site {
-            depth: at.depth,
-            scope,
-        };
-        let summary = self.summary(within, bodies.body, room)?;
-        let member = held_in(&head);
+        let scope = &Scope::bound(&*bodies.name, head, i, &*at.scope);
+        let summary = self.summary(Site { scope, ..at }, bodies.body, room)?;
         Ok(BodyFact {
-            member,
+            member: held_in(&head),
             cover: None,
             summary,
         })
@@ -416,7 +455,7 @@ impl Unfolding {
     fn covered_body(
         &self,
         at: Site<'_>,
-        bodies: Bodies<'_>,
+        bodies: Quantified<'_>,
         set: &Head<'_>,
         first: &Head<'_>,
         room: u32,
@@ -425,24 +464,20 @@ impl Unfolding {
         ensures light { IfOk result (λ r. IfSome r (λ known. known.summary.weight ≤ room)) }
         ensures known { IfOk result (λ r. IfSome r (λ known.
             IsOfBody self.now at.entry.scope.now bodies.entry known)) }
-        ensures holds { (m : Mode) (env : Env) (v : Value)
-            → Fits m self.now at.entry.scope.now env → Heads m self.now first.now v
-            → IfOk result (λ r. IfSome r (λ known.
-            IsSummary m known.summary (body_value bodies.entry env v))) }
-        ensures heavy { (m : Mode) (env : Env) (v : Value)
-            → Fits m self.now at.entry.scope.now env → Heads m self.now first.now v
-            → IfErr result (λ why. why ≡ Heavy → room < weight (body_value bodies.entry env v)) }
+        ensures holds { (m : Mode) (base env : Env) (v : Value)
+            → MeetsBody m self.now base at.entry.scope.now env bodies.entry
+            → Heads m self.now base first.now v → IfOk result (λ r. IfSome r (λ known.
+            IsSummary m known.summary (resolved_body bodies.entry env v))) }
+        ensures heavy { (m : Mode) (base env : Env) (v : Value)
+            → MeetsBody m self.now base at.entry.scope.now env bodies.entry
+            → Heads m self.now base first.now v
+            → IfErr result (λ why. why ≡ Heavy → room < weight (resolved_body bodies.entry env v)) }
     {
         let Some(cover) = self.cover(at.depth, set, first) else {
             return Ok(None);
         };
-        let head = Head::Covered(&cover);
-        let scope = &Scope::bound(&*bodies.name, head, &*at.scope);
-        let within = Site {
-            depth: at.depth,
-            scope,
-        };
-        let summary = self.summary(within, bodies.body, room)?;
+        let scope = &Scope::bound(&*bodies.name, Head::Covered(&cover), 0, &*at.scope);
+        let summary = self.summary(Site { scope, ..at }, bodies.body, room)?;
         if !summary.is_certain() {
             return Ok(None);
         }
@@ -460,14 +495,16 @@ impl Unfolding {
         at: Site<'_>,
         op: CountOp,
         number: u64,
-        bodies: Bodies<'_>,
+        bodies: Quantified<'_>,
         room: u32,
     ) -> Result<Summary, UnfoldFault>
         requires { room ≤ MAX_WEIGHT }
         ensures light { IfOk result (λ s. s.weight ≤ room) }
-        ensures holds { (m : Mode) (env : Env) → Fits m self.now at.entry.scope.now env
+        ensures holds { (m : Mode) (base env : Env)
+            → MeetsAll m self.now base at.entry.scope.now env bodies.entry
             → IfOk result (λ s. IsSummary m s (counted op number (bodies_of bodies.entry env))) }
-        ensures heavy { (m : Mode) (env : Env) → Fits m self.now at.entry.scope.now env
+        ensures heavy { (m : Mode) (base env : Env)
+            → MeetsAll m self.now base at.entry.scope.now env bodies.entry
             → IfErr result
             (λ why. why ≡ Heavy → room < weight (counted op number (bodies_of bodies.entry env))) }
     {
@@ -484,17 +521,26 @@ impl Unfolding {
 
     /// What is known of the bodies of a quantifier together, and the room that they leave.
     #[cycle(summing)]
-    fn gather(&self, at: Site<'_>, bodies: Bodies<'_>, room: u32) -> Result<Gathered, UnfoldFault>
+    fn gather(
+        &self,
+        at: Site<'_>,
+        bodies: Quantified<'_>,
+        room: u32,
+    ) -> Result<Gathered, UnfoldFault>
         requires { room ≤ MAX_WEIGHT }
         ensures light { IfOk result (λ r. r.left ≤ room) }
-        ensures count { (m : Mode) (env : Env) → Fits m self.now at.entry.scope.now env
+        ensures count { (m : Mode) (base env : Env)
+            → MeetsAll m self.now base at.entry.scope.now env bodies.entry
             → IfOk result (λ r. r.count ≡ length (bodies_of bodies.entry env)) }
-        ensures fact { (m : Mode) (env : Env) → Fits m self.now at.entry.scope.now env
+        ensures fact { (m : Mode) (base env : Env)
+            → MeetsAll m self.now base at.entry.scope.now env bodies.entry
             → IfOk result (λ r. Says m r.fact
             (Some (formula (gathered (map formula_of (bodies_of bodies.entry env)))))) }
-        ensures weight { (m : Mode) (env : Env) → Fits m self.now at.entry.scope.now env
+        ensures weight { (m : Mode) (base env : Env)
+            → MeetsAll m self.now base at.entry.scope.now env bodies.entry
             → IfOk result (λ r. room ≡ r.left + sum_by weight (bodies_of bodies.entry env)) }
-        ensures heavy { (m : Mode) (env : Env) → Fits m self.now at.entry.scope.now env
+        ensures heavy { (m : Mode) (base env : Env)
+            → MeetsAll m self.now base at.entry.scope.now env bodies.entry
             → IfErr result (λ why. why ≡ Heavy → room < sum_by weight (bodies_of bodies.entry env)) }
     {
         let set = self.head(at.depth, at.scope, bodies.set)?;

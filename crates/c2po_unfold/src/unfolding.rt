@@ -19,6 +19,7 @@ use crate::UnfoldFault;
 use crate::fact::{Fact, Tenses, fault_of, first_fault, tenses_of};
 use crate::fields::Fields;
 use crate::meanings::Meanings;
+use crate::resolve::{Around, Maker};
 use crate::scope::{Scope, Site};
 use crate::summary::{Summary, signal_fact};
 use crate::values::{Entry, Location, Parts, Stored, Whole};
@@ -112,11 +113,12 @@ impl Unfolding {
         ensures heavy { (env : Env) → StandsFor self.old env
             → IfErr result (λ why. why ≡ Heavy → room < weight (value_of (shape e.now) env)) }
     {
+        let e = self.resolve(&mut Maker::new(alloc), &Around::Top, e)?;
         let at = Site {
             depth: DEPTH,
             scope: &Scope::Top,
         };
-        let stored = self.store(alloc, at, e, room)?;
+        let stored = self.store(alloc, at, &e, room)?;
         self.declare(alloc, name, Entry::Value(stored))?;
         Ok(stored.fault)
     }
@@ -132,11 +134,12 @@ impl Unfolding {
         ensures heavy { (env : Env) → StandsFor self.old env
             → IfErr result (λ why. why ≡ Heavy → room < weight (value_of (shape e.now) env)) }
     {
+        let e = self.resolve(&mut Maker::new(alloc), &Around::Top, e)?;
         let at = Site {
             depth: DEPTH,
             scope: &Scope::Top,
         };
-        let Summary { weight, fact } = self.summary(at, e, room)?;
+        let Summary { weight, fact } = self.summary(at, &e, room)?;
         Ok(Weighed {
             weight,
             fault: fault_of(&fact),

@@ -8,8 +8,6 @@ use Rattle.c2po_ast.specs.Shape.{Shape, shape}
 use Rattle.c2po_nodes.specs.declared.nodes.Plain.{Plain}
 use Rattle.c2po_unfold.specs.Values.{members, picked}
 use Rattle.c2po_unfold.specs.Environment.{Env, signal_value, value_of}
-use Rattle.c2po_unfold.proofs.Members.{values_count}
-use Rattle.c2po_unfold.proofs.Parts.{leaf_members, leaf_picked}
 use Rattle.set_expand.specs.declared.names.Declared.{Declared}
 use Rattle.set_expand.specs.declared.nodes.Made.{Made}
 use Rattle.set_expand.specs.declared.scope.Scope.{Scope}
@@ -19,6 +17,7 @@ use Rattle.set_expand.specs.declared.scope.Named.{Named}
 use Rattle.set_expand.specs.Heads.{IsHead, NamedBelow, env_in, head_value, is_build, leads_on, named_value}
 use Rattle.set_expand.specs.Names.{SignalsBelow}
 use Rattle.set_expand.specs.Nodes.{HaveNodes, NamedKept}
+use Rattle.set_expand.proofs.Members.{leaf_members, leaf_picked, values_count}
 
 module _ (names : Table Declared) where
   -- a set has as many members as its expression

@@ -4,6 +4,7 @@ pub mod Growing
 pub mod Heading
 pub mod Joining
 pub mod Lightness
+pub mod Members
 pub mod Naming
 pub mod ReadValues
 pub mod Signalling

@@ -1,11 +1,15 @@
 -- A quantifier's bodies are those of its expression.
-use Rattle.std.proofs.Common.{ap, sym, ◌∙◌}
+use Rattle.std.proofs.Common.{ℕ, List, map, ap, sym, ◌∙◌}
 use Rattle.mltl_base.specs.declared.operators.LogicOp.TheVariants.{And, Or}
+use Rattle.c2po_ast.specs.declared.tree.Expr.{Expr}
 use Rattle.c2po_ast.specs.Shape.{shape, node_shape}
-use Rattle.c2po_unfold.specs.Values.{connected_all, counted}
-use Rattle.c2po_unfold.specs.Environment.{value_of}
-use Rattle.c2po_unfold.proofs.Loops.{values_over}
+use Rattle.c2po_unfold.specs.Values.{Value, connected_all, counted, members}
+use Rattle.c2po_unfold.specs.Environment.{Env, bind, value_of}
 use Rattle.c2po_unfold.proofs.operators.Operation.of.Goals as goal
+
+-- the values of a body, one for each member of a set that a name stands for
+abbrev values_over : Expr → List ℕ → Env → Value → List Value
+values_over body name env s = map (λ v. value_of (shape body) (bind name v env)) (members s)
 
 pub returns-in-Each : goal.returns-in-Each
 returns-in-Each c = λ env o.

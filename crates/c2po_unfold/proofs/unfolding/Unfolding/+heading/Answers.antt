@@ -1,49 +1,73 @@
-use Rattle.std.proofs.Common.{ap, sym, subst, refl, ◌∙◌, IfOk}
-use Rattle.c2po_ast.specs.Shape.{shapes}
-use Rattle.c2po_ast.proofs.Rows.{shape_of-Build, shape_of-Group}
+use Rattle.std.proofs.Common.{inl, inr, position, ap, sym, subst, refl, ◌∙◌, IfOk}
+use Rattle.std.specs.Str.{bytes_eq}
 use Rattle.c2po_unfold.specs.Values.{built, grouped}
-use Rattle.c2po_unfold.specs.Environment.{value_of, values_of, fields_in}
+use Rattle.c2po_unfold.specs.Environment.{fields_in}
 use Rattle.c2po_unfold.specs.Heads.{Heads}
-use Rattle.c2po_unfold.proofs.Members.{found_at}
+use Rattle.c2po_unfold.specs.Resolving.{AllResolved, resolved_values}
+use Rattle.c2po_unfold.specs.Scopes.{names_of}
+use Rattle.c2po_unfold.proofs.Columns.{column_bound, column_holds}
+use Rattle.c2po_unfold.proofs.Leading.{known_holds, found_holds}
+use Rattle.c2po_unfold.proofs.Members.{found_at, resolved_at}
 use Rattle.c2po_unfold.proofs.Parts.{picked_open, picked_past, other_picked}
+use Rattle.c2po_unfold.proofs.Rows.{resolved_of-Build, resolved_of-Group, are_resolved-Build, are_resolved-Group}
 use Rattle.c2po_unfold.proofs.unfolding.Unfolding.+heading.Goals as goal
 
+pub head-returns-in-Known-clause-head : goal.head-returns-in-Known-clause-head
+head-returns-in-Known-clause-head t c = λ m base env h. elim c.in-Known.is [
+  | inl x ↦ known_holds m c.args.self.now base c.args.scope.now env c.args.e.now x.0 c.in-Known.stored h x.1
+  | inr d ↦ found_holds m c.args.self.now base c.args.scope.now env c.args.e.now _ _ c.in-Known.stored h d.1
+]
+
 pub head-returns-in-Build-clause-head : goal.head-returns-in-Build-clause-head
-head-returns-in-Build-clause-head t c = λ m env h. (
+head-returns-in-Build-clause-head t c = λ m base env h. (
   env,
-  h,
-  ap (λ s. value_of s env) (shape_of-Build c.args.e.now c.in-Build.name c.in-Build.parts c.in-Build.is)
-      ∙ ap (λ es. built c.in-Build.name (values_of (shapes es) env)) (sym c.as_slice.ensures.value),
+  h.fits,
+  h.resolved,
   refl,
+  subst (AllResolved c.args.self.now base (names_of c.args.scope.now)) (sym c.as_slice-in-Build.ensures.value)
+      (are_resolved-Build c.args.self.now base (names_of c.args.scope.now) c.args.e.now c.in-Build.name c.in-Build.parts h.resolved c.in-Build.is),
+  resolved_of-Build c.args.e.now c.in-Build.name c.in-Build.parts env c.in-Build.is
+      ∙ ap (λ es. built c.in-Build.name (resolved_values es env)) (sym c.as_slice-in-Build.ensures.value),
 )
 
 pub head-returns-in-Group-clause-head : goal.head-returns-in-Group-clause-head
-head-returns-in-Group-clause-head t c = λ m env h. (
+head-returns-in-Group-clause-head t c = λ m base env h. (
   env,
-  h,
-  ap (λ s. value_of s env) (shape_of-Group c.args.e.now c.in-Group.members c.in-Group.is)
-      ∙ ap (λ es. grouped (values_of (shapes es) env)) (sym c.as_slice-in-Group.ensures.value),
+  h.fits,
+  h.resolved,
   refl,
+  subst (AllResolved c.args.self.now base (names_of c.args.scope.now)) (sym c.as_slice-in-Group.ensures.value)
+      (are_resolved-Group c.args.self.now base (names_of c.args.scope.now) c.args.e.now c.in-Group.members h.resolved c.in-Group.is),
+  resolved_of-Group c.args.e.now c.in-Group.members env c.in-Group.is
+      ∙ ap (λ es. grouped (resolved_values es env)) (sym c.as_slice-in-Group.ensures.value),
 )
 
 pub part-returns-in-Some-get-clause-head : goal.part-returns-in-Some-get-clause-head
-part-returns-in-Some-get-clause-head t c = λ m env v f k.
-    let g = subst (λ h. Heads m c.args.self.now h v) c.in-Struct.is k in
-    subst (λ w. IfOk c.head.result (λ h. Heads m c.args.self.now h w))
-    (picked_open c.in-Struct.parts.now g.0 c.in-Struct.name.now c.in-Some.place c.in-Some-get.part.now (λ y. fields_in (env y)) c.args.field.now v g.2
-    (sym (c.in-Some.ensures m env f)) (found_at _ _ _ _ refl c.in-Some-get.ensures.lookup.3.0 c.in-Some-get.ensures.lookup.1))
-    (c.head.ensures.head m g.0 g.1)
+part-returns-in-Some-get-clause-head t c = λ m base env v f p k.
+    let g = subst (λ h. Heads m c.args.self.now base h v) c.in-Struct.is k in
+    let at = found_at _ _ _ _ refl c.in-Some-get.ensures.lookup.3.0 c.in-Some-get.ensures.lookup.1 in
+    let names = resolved_at c.in-Struct.parts.now c.args.self.now base (names_of c.in-Struct.within.now) c.in-Some.place c.in-Some-get.part.now g.4 at in
+    subst (λ w. IfOk c.head.result (λ h. Heads m c.args.self.now base h w))
+    (picked_open c.in-Struct.parts.now g.0 c.in-Struct.name.now c.in-Some.place c.in-Some-get.part.now (λ y. fields_in (env y)) c.args.field.now v g.5
+    (sym {b = position (bytes_eq c.args.field.now) (fields_in (env c.in-Struct.name.now))} (c.in-Some.ensures m base env f p)) at)
+    (c.head.ensures.head m base g.0 (record { fits = g.1; resolved = names }))
 
 pub part-returns-in-None-clause-head : goal.part-returns-in-None-clause-head
-part-returns-in-None-clause-head t c = λ m env v f k.
-    let g = subst (λ h. Heads m c.args.self.now h v) c.in-Struct.is k in
-    subst (λ w. Heads m c.args.self.now c.args.whole w)
-    (picked_past c.in-Struct.parts.now g.0 c.in-Struct.name.now c.in-Some.place (λ y. fields_in (env y)) c.args.field.now v g.2
-    (sym (c.in-Some.ensures m env f)) c.in-None.ensures.lookup.3) k
+part-returns-in-None-clause-head t c = λ m base env v f p k.
+    let g = subst (λ h. Heads m c.args.self.now base h v) c.in-Struct.is k in
+    subst (λ w. Heads m c.args.self.now base c.args.whole w)
+    (picked_past c.in-Struct.parts.now g.0 c.in-Struct.name.now c.in-Some.place (λ y. fields_in (env y)) c.args.field.now v g.5
+    (sym {b = position (bytes_eq c.args.field.now) (fields_in (env c.in-Struct.name.now))} (c.in-Some.ensures m base env f p)) c.in-None.ensures.lookup.3) k
 
 pub part-returns-in-Nothing : goal.part-returns-in-Nothing
 part-returns-in-Nothing t c = record {
-  head = λ m env v f k. subst (λ w. Heads m c.args.self.now c.args.whole w)
-      (sym (other_picked m c.args.self.now c.args.whole v (λ y. fields_in (env y)) c.args.field.now c.in-Nothing.is k)) k;
+  head = λ m base env v f p k. subst (λ w. Heads m c.args.self.now base c.args.whole w)
+      (sym (other_picked m c.args.self.now base c.args.whole v (λ y. fields_in (env y)) c.args.field.now c.in-Nothing.is k)) k;
   memory = tt;
 }
+
+pub head-returns-in-Some-clause-head : goal.head-returns-in-Some-clause-head
+head-returns-in-Some-clause-head t c = λ m base env h.
+    let bound = column_bound m c.args.self.now base c.args.scope.now env c.args.e.now _ _ c.in-Column.name c.in-Column.rows h c.in-Column.is in
+    column_holds m c.args.self.now base c.args.scope.now env c.args.e.now _ _ c.in-Column.name c.in-Column.rows c.as_slice.result.now
+    c.in-Some.found h c.in-Column.is c.as_slice.ensures.value (c.in-Some.ensures m c.args.self.now base env h.fits bound)

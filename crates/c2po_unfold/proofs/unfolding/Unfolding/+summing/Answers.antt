@@ -2,56 +2,47 @@ use Rattle.std.proofs.Common.{◌≡◌, ◌+◌, ◌<◌, true, false, Some, []
 use Rattle.std.proofs.lemmas.List.{take_all, length-map}
 use Rattle.std.proofs.lemmas.Result.{err_from_is_err_and}
 use Rattle.std.proofs.lemmas.Option.{same_Some}
-use Rattle.c2po_ast.specs.Shape.{shape}
 use Rattle.c2po_unfold.specs.Covering.{covering, Says}
 use Rattle.c2po_unfold.specs.declared.summing.BodyFact.{BodyFact}
-use Rattle.c2po_unfold.proofs.Later.{fits_covering}
+use Rattle.c2po_unfold.proofs.Later.{fits_covering, later_same}
 use Rattle.c2po_nodes.specs.Nodes.{formula, constant_formula}
 use Rattle.c2po_unfold.proofs.Knowing.{says_told}
 use Rattle.c2po_unfold.specs.declared.fault.UnfoldFault.TheVariants.{Heavy}
 use Rattle.mltl_base.specs.declared.operators.LogicOp.TheVariants.{Or}
-use Rattle.c2po_unfold.specs.Values.{boolean, members, formula_of, truth_value, connected_all, counted}
+use Rattle.c2po_unfold.specs.Values.{members, formula_of, truth_value, connected_all, counted}
 use Rattle.c2po_unfold.specs.Weights.{weight, counting_weight}
-use Rattle.c2po_unfold.specs.Environment.{value_of, bind}
-use Rattle.c2po_unfold.specs.Operators.{bodies_over, bodies_of, body_value, operation_value}
+use Rattle.c2po_unfold.specs.Environment.{bind}
+use Rattle.c2po_unfold.specs.Resolving.{IsResolved, bodies_of, resolved_bodies, resolved_body, resolved_value}
 use Rattle.c2po_unfold.specs.Heads.{Heads}
+use Rattle.c2po_unfold.specs.Scopes.{names_of}
 use Rattle.c2po_unfold.specs.Summaries.{IsOfLeaf, IsSummary, gathered}
 use Rattle.c2po_unfold.proofs.Members.{found_at, holds_weight}
-use Rattle.c2po_unfold.proofs.Loops.{weighed_more, weight_within, bodies_count, body_at, member_at, none_left, weights_back, joined_first, joined_one, joined_known, joined_within, not_known, sum_within, gathered_more, counted_tells, counted_weight}
+use Rattle.c2po_unfold.proofs.Loops.{bodies_by, meets_all, meets_at, weighed_more, weight_within, bodies_count, body_at, member_at, none_left, weights_back, joined_first, joined_one, joined_known, joined_within, not_known, sum_within, meets_within, gathered_more, counted_tells, counted_weight}
 use Rattle.c2po_unfold.proofs.unfolding.Unfolding.+summing.Goals as goal
 
 pub binary-returns-in_err-b-clause-heavy : goal.binary-returns-in_err-b-clause-heavy
-binary-returns-in_err-b-clause-heavy t c = λ m env h.
+binary-returns-in_err-b-clause-heavy t c = λ m base env h k.
     let p = err_from_is_err_and c.from_residual-in_err-b.result c.from_residual-in_err-b.ensures.1 in
     rw (p.1, p.2)
     (λ e. omega (
       arith,
-      c.in_err-b.ensures.heavy m env h e,
+      c.in_err-b.ensures.heavy m base env k e,
       c.in_ok-left.ensures.left,
-      (c.in_ok-a.ensures.holds m env h).weight,
+      (c.in_ok-a.ensures.holds m base env h).weight,
     ))
 
-pub operator-returns-in-Joined-clause-holds : goal.operator-returns-in-Joined-clause-holds
-operator-returns-in-Joined-clause-holds t c = λ m env h o.
-    let same : connected_all c.in-Joined.op (bodies_of c.in-Joined.bodies env) ≡ value_of (shape c.args.e.now) env =
-    ap (λ r. operation_value r env) (sym c.in-Joined.is) ∙ c.of.ensures env o in
-    subst (λ w. IfOk c.joined_bodies.result (λ s. IsSummary m s w)) same (c.joined_bodies.ensures.holds m env h)
-
-pub operator-returns-in-Joined-clause-heavy : goal.operator-returns-in-Joined-clause-heavy
-operator-returns-in-Joined-clause-heavy t c = λ m env h o.
-    let same : connected_all c.in-Joined.op (bodies_of c.in-Joined.bodies env) ≡ value_of (shape c.args.e.now) env =
-    ap (λ r. operation_value r env) (sym c.in-Joined.is) ∙ c.of.ensures env o in
-    subst (λ w. IfErr c.joined_bodies.result (λ why. why ≡ Heavy → c.args.room < weight w)) same (c.joined_bodies.ensures.heavy m env h)
-
 pub parts_summary-returns-in_err-member-clause-heavy : goal.parts_summary-returns-in_err-member-clause-heavy
-parts_summary-returns-in_err-member-clause-heavy t c = λ m env h.
+parts_summary-returns-in_err-member-clause-heavy t c = λ m base env h all.
     let p = err_from_is_err_and c.from_residual-in_err-member.result c.from_residual-in_err-member.ensures.1 in
+    let u = c.args.self.now in
+    let at = found_at c.args.es.now c.args.es.now c.loop-e.e-index c.e-item.result refl c.loop-e-test.true c.e-item.is in
+    let meets = meets_at m u u base c.args.at.scope.now env c.args.es.now c.loop-e.e-index c.e-item.result (later_same u) h all at in
     rw (p.1, p.2)
     (λ e. omega (
       arith,
-      c.in_err-member.ensures.heavy m env h e,
-      c.loop-e.invariant.weight m env h,
-      weight_within c.args.es.now c.loop-e.e-index c.e-item.result env (found_at c.args.es.now c.args.es.now c.loop-e.e-index c.e-item.result refl c.loop-e-test.true c.e-item.is),
+      c.in_err-member.ensures.heavy m base env meets e,
+      c.loop-e.invariant.weight m base env h all,
+      weight_within c.args.es.now c.loop-e.e-index c.e-item.result env at,
     ))
 
 pub parts_summary-loop-e-preserved : goal.parts_summary-loop-e-preserved
@@ -62,17 +53,17 @@ parts_summary-loop-e-preserved t c =
     c.in_ok-member.ensures.holds c.in_ok-member.ensures.light
 
 pub joined_bodies-returns-in_err-first-clause-heavy : goal.joined_bodies-returns-in_err-first-clause-heavy
-joined_bodies-returns-in_err-first-clause-heavy t c = λ m env h.
+joined_bodies-returns-in_err-first-clause-heavy t c = λ m base env h.
     let p = err_from_is_err_and c.from_residual-in_err-first.result c.from_residual-in_err-first.ensures.1 in
-    let s = value_of (shape c.args.bodies.set.now) env in
-    let heads = c.in_ok-set.ensures.head m env h in
+    let s = resolved_value c.args.bodies.set.now env in
+    let heads = c.in_ok-set.ensures.head m base env h.set in
     let v = get_or (members s) 0 (truth_value false) in
-    let at : slice_get (members s) 0 ≡ Some v = member_at (members s) 0 c.member_count-count.result (c.member_count-count.ensures m s heads) (omega arith) in
+    let at : slice_get (members s) 0 ≡ Some v = member_at (members s) 0 c.member_count-count.result (c.member_count-count.ensures m base s heads) (omega arith) in
     rw (p.1, p.2)
     (λ e. omega (
       arith,
-      c.in_err-first.ensures.heavy m env s v h heads at e,
-      joined_first c.args.op (bodies_over c.args.bodies env s) (value_of (shape c.args.bodies.body.now) (bind c.args.bodies.name.now v env))
+      c.in_err-first.ensures.heavy m base env s v h.body heads at e,
+      joined_first c.args.op (resolved_bodies c.args.bodies env s) (resolved_body c.args.bodies env v)
           (body_at c.args.bodies env s v 0 at),
     ))
 
@@ -80,51 +71,51 @@ pub joined_bodies-loop-i-init : goal.joined_bodies-loop-i-init
 joined_bodies-loop-i-init t c = record {
   light = omega (arith, c.as_formula-all.ensures.weight, c.in_ok-first.ensures.light);
   known = c.in_ok-first.ensures.known;
-  holds = λ m env s h heads.
+  holds = λ m base env s h heads.
       let v = get_or (members s) 0 (truth_value false) in
-      let at : slice_get (members s) 0 ≡ Some v = member_at (members s) 0 c.member_count-count.result (c.member_count-count.ensures m s heads) (omega arith) in
-      let w = value_of (shape c.args.bodies.body.now) (bind c.args.bodies.name.now v env) in
+      let at : slice_get (members s) 0 ≡ Some v = member_at (members s) 0 c.member_count-count.result (c.member_count-count.ensures m base s heads) (omega arith) in
+      let w = resolved_body c.args.bodies env v in
       subst (λ x. IsSummary m c.as_formula-all.result x)
-      (joined_one c.args.op (bodies_over c.args.bodies env s) w (body_at c.args.bodies env s v 0 at))
-      (c.as_formula-all.ensures.holds m c.args.op w (c.in_ok-first.ensures.holds m env s v h heads at));
+      (joined_one c.args.op (resolved_bodies c.args.bodies env s) w (body_at c.args.bodies env s v 0 at))
+      (c.as_formula-all.ensures.holds m c.args.op w (c.in_ok-first.ensures.holds m base env s v h heads at));
 }
 
 pub joined_bodies-returns-in_err-left-clause-heavy : goal.joined_bodies-returns-in_err-left-clause-heavy
-joined_bodies-returns-in_err-left-clause-heavy t c = λ m env h.
+joined_bodies-returns-in_err-left-clause-heavy t c = λ m base env h.
     let p = err_from_is_err_and c.from_residual-in_err-left.result c.from_residual-in_err-left.ensures.1 in
     let i = c.loop-i.i in
-    let s = value_of (shape c.args.bodies.set.now) env in
-    let heads = c.in_ok-set.ensures.head m env h in
+    let s = resolved_value c.args.bodies.set.now env in
+    let heads = c.in_ok-set.ensures.head m base env h.set in
     let v = get_or (members s) i (truth_value false) in
-    let at : slice_get (members s) i ≡ Some v = member_at (members s) i c.member_count-count.result (c.member_count-count.ensures m s heads) c.loop-i-test.true in
-    let bodies = bodies_over c.args.bodies env s in
-    let w = value_of (shape c.args.bodies.body.now) (bind c.args.bodies.name.now v env) in
+    let at : slice_get (members s) i ≡ Some v = member_at (members s) i c.member_count-count.result (c.member_count-count.ensures m base s heads) c.loop-i-test.true in
+    let bodies = resolved_bodies c.args.bodies env s in
+    let w = resolved_body c.args.bodies env v in
     rw (p.1, p.2)
     (λ e. omega (
       arith,
       c.in_err-left.ensures.heavy,
       c.loop-i.invariant.light,
-      (c.loop-i.invariant.holds m env s h heads).weight,
+      (c.loop-i.invariant.holds m base env s h.body heads).weight,
       joined_within c.args.op bodies i w (body_at c.args.bodies env s v i at) c.loop-i.auto.i,
     ))
 
 pub joined_bodies-returns-in_err-next-clause-heavy : goal.joined_bodies-returns-in_err-next-clause-heavy
-joined_bodies-returns-in_err-next-clause-heavy t c = λ m env h.
+joined_bodies-returns-in_err-next-clause-heavy t c = λ m base env h.
     let p = err_from_is_err_and c.from_residual-in_err-next.result c.from_residual-in_err-next.ensures.1 in
     let i = c.loop-i.i in
-    let s = value_of (shape c.args.bodies.set.now) env in
-    let heads = c.in_ok-set.ensures.head m env h in
+    let s = resolved_value c.args.bodies.set.now env in
+    let heads = c.in_ok-set.ensures.head m base env h.set in
     let v = get_or (members s) i (truth_value false) in
-    let at : slice_get (members s) i ≡ Some v = member_at (members s) i c.member_count-count.result (c.member_count-count.ensures m s heads) c.loop-i-test.true in
-    let bodies = bodies_over c.args.bodies env s in
-    let w = value_of (shape c.args.bodies.body.now) (bind c.args.bodies.name.now v env) in
+    let at : slice_get (members s) i ≡ Some v = member_at (members s) i c.member_count-count.result (c.member_count-count.ensures m base s heads) c.loop-i-test.true in
+    let bodies = resolved_bodies c.args.bodies env s in
+    let w = resolved_body c.args.bodies env v in
     rw (p.1, p.2)
     (λ e. omega (
       arith,
-      c.in_err-next.ensures.heavy m env s v h heads at e,
+      c.in_err-next.ensures.heavy m base env s v h.body heads at e,
       c.in_ok-left.ensures.left,
       c.loop-i.invariant.light,
-      (c.loop-i.invariant.holds m env s h heads).weight,
+      (c.loop-i.invariant.holds m base env s h.body heads).weight,
       joined_within c.args.op bodies i w (body_at c.args.bodies env s v i at) c.loop-i.auto.i,
     ))
 
@@ -134,41 +125,41 @@ joined_bodies-loop-i-preserved t c =
     record {
       light = omega (arith, c.over_two-all.ensures.weight, c.in_ok-next.ensures.light, c.in_ok-left.ensures.left, c.loop-i.invariant.light);
       known = c.in_ok-next.ensures.known;
-      holds = λ m env s h heads.
+      holds = λ m base env s h heads.
           let v = get_or (members s) i (truth_value false) in
-          let at : slice_get (members s) i ≡ Some v = member_at (members s) i c.member_count-count.result (c.member_count-count.ensures m s heads) c.loop-i-test.true in
-          let bodies = bodies_over c.args.bodies env s in
-          let w = value_of (shape c.args.bodies.body.now) (bind c.args.bodies.name.now v env) in
+          let at : slice_get (members s) i ≡ Some v = member_at (members s) i c.member_count-count.result (c.member_count-count.ensures m base s heads) c.loop-i-test.true in
+          let bodies = resolved_bodies c.args.bodies env s in
+          let w = resolved_body c.args.bodies env v in
           joined_known m c.over_two-all.result c.args.op bodies i w (body_at c.args.bodies env s v i at) c.loop-i.auto.i
           (c.over_two-all.ensures.holds m (connected_all c.args.op (take i bodies)) w
-          (c.loop-i.invariant.holds m env s h heads)
-          (c.in_ok-next.ensures.holds m env s v h heads at));
+          (c.loop-i.invariant.holds m base env s h heads)
+          (c.in_ok-next.ensures.holds m base env s v h heads at));
     }
 
 pub joined_bodies-returns-clause-holds : goal.joined_bodies-returns-clause-holds
-joined_bodies-returns-clause-holds t c = λ m env h.
-    let s = value_of (shape c.args.bodies.set.now) env in
-    let heads = c.in_ok-set.ensures.head m env h in
-    let bodies = bodies_over c.args.bodies env s in
+joined_bodies-returns-clause-holds t c = λ m base env h.
+    let s = resolved_value c.args.bodies.set.now env in
+    let heads = c.in_ok-set.ensures.head m base env h.set in
+    let bodies = resolved_bodies c.args.bodies env s in
     let whole : take c.loop-i.i bodies ≡ bodies =
-    take_all c.loop-i.i bodies (omega (arith, bodies_count c.args.bodies env s, c.member_count-count.ensures m s heads)) in
-    subst (λ vs. IsSummary m c.loop-i.all (connected_all c.args.op vs)) whole (c.loop-i.invariant.holds m env s h heads)
+    take_all c.loop-i.i bodies (omega (arith, bodies_count c.args.bodies env s, c.member_count-count.ensures m base s heads)) in
+    subst (λ vs. IsSummary m c.loop-i.all (connected_all c.args.op vs)) whole (c.loop-i.invariant.holds m base env s h.body heads)
 
 pub gather-returns-in_err-next-clause-heavy : goal.gather-returns-in_err-next-clause-heavy
-gather-returns-in_err-next-clause-heavy t c = λ m env h.
+gather-returns-in_err-next-clause-heavy t c = λ m base env h.
     let p = err_from_is_err_and c.from_residual-in_err-next.result c.from_residual-in_err-next.ensures.1 in
     let i = c.loop-i.i in
-    let s = value_of (shape c.args.bodies.set.now) env in
-    let heads = c.in_ok-set.ensures.head m env h in
+    let s = resolved_value c.args.bodies.set.now env in
+    let heads = c.in_ok-set.ensures.head m base env h.set in
     let v = get_or (members s) i (truth_value false) in
-    let at : slice_get (members s) i ≡ Some v = member_at (members s) i c.member_count-count.result (c.member_count-count.ensures m s heads) c.loop-i-test.true in
-    let bodies = bodies_over c.args.bodies env s in
-    let w = value_of (shape c.args.bodies.body.now) (bind c.args.bodies.name.now v env) in
+    let at : slice_get (members s) i ≡ Some v = member_at (members s) i c.member_count-count.result (c.member_count-count.ensures m base s heads) c.loop-i-test.true in
+    let bodies = resolved_bodies c.args.bodies env s in
+    let w = resolved_body c.args.bodies env v in
     rw (p.1, p.2)
     (λ e. omega (
       arith,
-      c.in_err-next.ensures.heavy m env s v h heads at e,
-      c.loop-i.invariant.weight m env s h heads,
+      c.in_err-next.ensures.heavy m base env s v h.body heads at e,
+      c.loop-i.invariant.weight m base env s h.body heads,
       sum_within bodies i w (body_at c.args.bodies env s v i at),
     ))
 
@@ -176,170 +167,201 @@ pub gather-loop-i-preserved : goal.gather-loop-i-preserved
 gather-loop-i-preserved t c =
     gathered_more c.args.self.now c.args.at.scope.now c.in_ok-set.set c.args.bodies c.args.room c.loop-i.i c.loop-i.fact c.joined-fact.result c.loop-i.left
     c.loop-i.last c.in_ok-next.next c.loop-i.invariant c.in_ok-next.ensures.light
-    (λ m s heads. omega (arith, c.member_count-count.ensures m s heads, c.loop-i-test.true))
+    (λ m base s heads. omega (arith, c.member_count-count.ensures m base s heads, c.loop-i-test.true))
     c.in_ok-next.ensures.holds c.in_ok-next.ensures.known (λ m o q h k. c.joined-fact.ensures m Or o q h k)
 
 pub gather-returns-clause-fact : goal.gather-returns-clause-fact
-gather-returns-clause-fact t c = λ m env h.
-    let s = value_of (shape c.args.bodies.set.now) env in
-    let heads = c.in_ok-set.ensures.head m env h in
-    let whole : take c.loop-i.i (bodies_over c.args.bodies env s) ≡ bodies_over c.args.bodies env s =
-    take_all c.loop-i.i (bodies_over c.args.bodies env s) (omega (arith, bodies_count c.args.bodies env s, c.member_count-count.ensures m s heads)) in
-    subst (λ vs. Says m c.loop-i.fact (Some (formula (gathered (map formula_of vs))))) whole (c.loop-i.invariant.tells m env s h heads)
+gather-returns-clause-fact t c = λ m base env h.
+    let s = resolved_value c.args.bodies.set.now env in
+    let heads = c.in_ok-set.ensures.head m base env h.set in
+    let whole : take c.loop-i.i (resolved_bodies c.args.bodies env s) ≡ resolved_bodies c.args.bodies env s =
+    take_all c.loop-i.i (resolved_bodies c.args.bodies env s) (omega (arith, bodies_count c.args.bodies env s, c.member_count-count.ensures m base s heads)) in
+    subst (λ vs. Says m c.loop-i.fact (Some (formula (gathered (map formula_of vs))))) whole (c.loop-i.invariant.tells m base env s h.body heads)
 
 pub gather-returns-clause-weight : goal.gather-returns-clause-weight
-gather-returns-clause-weight t c = λ m env h.
-    let s = value_of (shape c.args.bodies.set.now) env in
-    let heads = c.in_ok-set.ensures.head m env h in
-    let whole : take c.loop-i.i (bodies_over c.args.bodies env s) ≡ bodies_over c.args.bodies env s =
-    take_all c.loop-i.i (bodies_over c.args.bodies env s) (omega (arith, bodies_count c.args.bodies env s, c.member_count-count.ensures m s heads)) in
-    subst (λ vs. c.args.room ≡ c.loop-i.left + sum_by weight vs) whole (c.loop-i.invariant.weight m env s h heads)
+gather-returns-clause-weight t c = λ m base env h.
+    let s = resolved_value c.args.bodies.set.now env in
+    let heads = c.in_ok-set.ensures.head m base env h.set in
+    let whole : take c.loop-i.i (resolved_bodies c.args.bodies env s) ≡ resolved_bodies c.args.bodies env s =
+    take_all c.loop-i.i (resolved_bodies c.args.bodies env s) (omega (arith, bodies_count c.args.bodies env s, c.member_count-count.ensures m base s heads)) in
+    subst (λ vs. c.args.room ≡ c.loop-i.left + sum_by weight vs) whole (c.loop-i.invariant.weight m base env s h.body heads)
 
 pub gather-returns-clause-count : goal.gather-returns-clause-count
-gather-returns-clause-count t c = λ m env h.
-    let s = value_of (shape c.args.bodies.set.now) env in
-    c.member_count-count.ensures m s (c.in_ok-set.ensures.head m env h) ∙ sym (bodies_count c.args.bodies env s)
+gather-returns-clause-count t c = λ m base env h.
+    let s = resolved_value c.args.bodies.set.now env in
+    c.member_count-count.ensures m base s (c.in_ok-set.ensures.head m base env h.set) ∙ sym (bodies_count c.args.bodies env s)
 
 pub counted_bodies-returns-clause-holds : goal.counted_bodies-returns-clause-holds
-counted_bodies-returns-clause-holds t c = λ m env h.
+counted_bodies-returns-clause-holds t c = λ m base env h.
     let bodies = bodies_of c.args.bodies env in
-    let count : c.in_ok-all.all.count ≡ length bodies = c.in_ok-all.ensures.count m env h in
+    let count : c.in_ok-all.all.count ≡ length bodies = c.in_ok-all.ensures.count m base env h in
     let some : 0 < length bodies = omega (arith, count) in
     let beside : counting_weight c.in_ok-all.all.count c.args.number ≡ counting_weight (length bodies) c.args.number = ap (λ n. counting_weight n c.args.number) count in
     record {
-      weight = omega (arith, c.in_ok-all.ensures.weight m env h, beside, c.in_ok-gates.ensures.weight, counted_weight c.args.op c.args.number bodies some);
+      weight = omega (arith, c.in_ok-all.ensures.weight m base env h, beside, c.in_ok-gates.ensures.weight, counted_weight c.args.op c.args.number bodies some);
       fact = counted_tells m c.args.op c.in_ok-all.all.count c.args.number bodies c.counted_fact.result some count
-          (c.counted_fact.ensures m (map formula_of bodies) (length-map bodies formula_of ∙ sym count) (c.in_ok-all.ensures.fact m env h));
+          (c.counted_fact.ensures m (map formula_of bodies) (length-map bodies formula_of ∙ sym count) (c.in_ok-all.ensures.fact m base env h));
     }
 
 pub gather-loop-i-init : goal.gather-loop-i-init
 gather-loop-i-init t c = record {
   inside = omega arith;
   known = not_known c.args.self.now c.args.at.scope.now c.args.bodies c.none-last.result c.none-last.ensures.member c.none-last.ensures.cover;
-  tells = λ m env s h heads. says_told m c.truth-fact.result (Some (formula (constant_formula false))) (c.truth-fact.ensures.truth false);
-  weight = λ m env s h heads. omega arith;
+  tells = λ m base env s h heads. says_told m c.truth-fact.result (Some (formula (constant_formula false))) (c.truth-fact.ensures.truth false);
+  weight = λ m base env s h heads. omega arith;
 }
-
-pub summary-returns-in-Nothing-clause-holds : goal.summary-returns-in-Nothing-clause-holds
-summary-returns-in-Nothing-clause-holds t c = λ m env h.
-    let is = subst (λ r. Heads m c.args.self.now r (value_of (shape c.args.e.now) env)) c.in-Nothing.is (c.in_ok-head.ensures.head m env h) in
-    subst (λ v. IfOk c.token.result (λ s. IsSummary m s v)) (sym is.2) (c.token.ensures.holds m (boolean false) refl (c.truth.ensures.truth false))
 
 -- what is known of the last body is known where it is so for the member
 pub body-returns-in_err-less-clause-heavy : goal.body-returns-in_err-less-clause-heavy
-body-returns-in_err-less-clause-heavy t c = λ m env s v h heads at.
+body-returns-in_err-less-clause-heavy t c = λ m base env s v h heads at.
     let p = err_from_is_err_and c.from_residual-in_err-less.result c.from_residual-in_err-less.ensures.1 in
-    let known = c.is_known.ensures m c.args.at.scope.now c.args.bodies env v c.if-is_known.true c.requires.known h (c.in_ok-head.ensures.head m s v heads at) in
+    let known = c.is_known.ensures m c.args.at.scope.now c.args.bodies base env v c.if-is_known.true c.requires.known h (c.in_ok-head.ensures.head m base s v heads at) in
     rw (p.1, p.2) (λ e. omega (arith, c.in_err-less.ensures.heavy, known.weight))
 
 pub body-returns-then-is_known-clause-holds : goal.body-returns-then-is_known-clause-holds
-body-returns-then-is_known-clause-holds t c = λ m env s v h heads at.
-    c.is_known.ensures m c.args.at.scope.now c.args.bodies env v c.if-is_known.true c.requires.known h (c.in_ok-head.ensures.head m s v heads at)
-
-pub summary-returns-in_err-less-clause-heavy : goal.summary-returns-in_err-less-clause-heavy
-summary-returns-in_err-less-clause-heavy t c = λ m env h.
-    let p = err_from_is_err_and c.from_residual-in_err-less.result c.from_residual-in_err-less.ensures.1 in
-    let v = value_of (shape c.args.e.now) env in
-    rw (p.1, p.2)
-    (λ e. omega (arith, c.in_err-less.ensures.heavy, holds_weight v c.args.self.now c.in-Some.stored (c.in-Some.ensures m env h)))
-
-pub summary-returns-in_err-less-in-Held-clause-heavy : goal.summary-returns-in_err-less-in-Held-clause-heavy
-summary-returns-in_err-less-in-Held-clause-heavy t c = λ m env h.
-    let p = err_from_is_err_and c.from_residual-in_err-less-in-Held.result c.from_residual-in_err-less-in-Held.ensures.1 in
-    let v = value_of (shape c.args.e.now) env in
-    let held = subst (λ r. Heads m c.args.self.now r v) c.in-Held.is (c.in_ok-head.ensures.head m env h) in
-    rw (p.1, p.2)
-    (λ e. omega (arith, c.in_err-less-in-Held.ensures.heavy, holds_weight v c.args.self.now c.in-Held.stored held))
+body-returns-then-is_known-clause-holds t c = λ m base env s v h heads at.
+    c.is_known.ensures m c.args.at.scope.now c.args.bodies base env v c.if-is_known.true c.requires.known h (c.in_ok-head.ensures.head m base s v heads at)
 
 -- quantifiers over no member
 pub joined_bodies-returns-then-count-eq0-clause-holds : goal.joined_bodies-returns-then-count-eq0-clause-holds
-joined_bodies-returns-then-count-eq0-clause-holds t c = λ m env h.
-    let s = value_of (shape c.args.bodies.set.now) env in
+joined_bodies-returns-then-count-eq0-clause-holds t c = λ m base env h.
+    let s = resolved_value c.args.bodies.set.now env in
     let bodies = bodies_of c.args.bodies env in
     let none : bodies ≡ [] =
-    none_left bodies c.member_count-count.result (c.member_count-count.ensures m s (c.in_ok-set.ensures.head m env h) ∙ sym (bodies_count c.args.bodies env s)) (omega arith) in
+    none_left bodies c.member_count-count.result (c.member_count-count.ensures m base s (c.in_ok-set.ensures.head m base env h.set) ∙ sym (bodies_count c.args.bodies env s)) (omega arith) in
     subst (λ vs. IsSummary m c.none.result (connected_all c.args.op vs)) (sym none) (c.none.ensures.joined m c.args.op)
 
 pub counted_bodies-returns-then-all-eq0-clause-holds : goal.counted_bodies-returns-then-all-eq0-clause-holds
-counted_bodies-returns-then-all-eq0-clause-holds t c = λ m env h.
+counted_bodies-returns-then-all-eq0-clause-holds t c = λ m base env h.
     let bodies = bodies_of c.args.bodies env in
-    let none : bodies ≡ [] = none_left bodies c.in_ok-all.all.count (c.in_ok-all.ensures.count m env h) (omega arith) in
+    let none : bodies ≡ [] = none_left bodies c.in_ok-all.all.count (c.in_ok-all.ensures.count m base env h) (omega arith) in
     subst (λ vs. IsSummary m c.none.result (counted c.args.op c.args.number vs)) (sym none) (c.none.ensures.counted m c.args.op c.args.number)
 
 -- a counting quantifier weighs more than its bodies
 pub counted_bodies-returns-in_err-all-clause-heavy : goal.counted_bodies-returns-in_err-all-clause-heavy
-counted_bodies-returns-in_err-all-clause-heavy t c = λ m env h.
+counted_bodies-returns-in_err-all-clause-heavy t c = λ m base env h.
     let p = err_from_is_err_and c.from_residual.result c.from_residual.ensures.1 in
     rw (p.1, p.2)
-    (λ e. omega (arith, c.in_err-all.ensures.heavy m env h e, weights_back (bodies_of c.args.bodies env)))
+    (λ e. omega (arith, c.in_err-all.ensures.heavy m base env h e, weights_back (bodies_of c.args.bodies env)))
 
 pub counted_bodies-returns-in_err-gates-clause-heavy : goal.counted_bodies-returns-in_err-gates-clause-heavy
-counted_bodies-returns-in_err-gates-clause-heavy t c = λ m env h.
+counted_bodies-returns-in_err-gates-clause-heavy t c = λ m base env h.
     let p = err_from_is_err_and c.from_residual-in_err-gates.result c.from_residual-in_err-gates.ensures.1 in
     let bodies = bodies_of c.args.bodies env in
-    let count : c.in_ok-all.all.count ≡ length bodies = c.in_ok-all.ensures.count m env h in
+    let count : c.in_ok-all.all.count ≡ length bodies = c.in_ok-all.ensures.count m base env h in
     let some : 0 < length bodies = omega (arith, count) in
     let beside : counting_weight c.in_ok-all.all.count c.args.number ≡ counting_weight (length bodies) c.args.number = ap (λ n. counting_weight n c.args.number) count in
     rw (p.1, p.2)
-    (λ e. omega (arith, c.in_err-gates.ensures.heavy, c.in_ok-all.ensures.weight m env h, beside, counted_weight c.args.op c.args.number bodies some))
+    (λ e. omega (arith, c.in_err-gates.ensures.heavy, c.in_ok-all.ensures.weight m base env h, beside, counted_weight c.args.op c.args.number bodies some))
 
 -- a body with its variable bound
 pub body-returns-in-Some-clause-holds : goal.body-returns-in-Some-clause-holds
-body-returns-in-Some-clause-holds t c = λ m env s v h heads at.
-    subst (λ o. IfSome o (λ (known : BodyFact). IsSummary m known.summary (body_value c.args.bodies env v))) c.in-Some.is
-    (c.in_ok-known.ensures.holds m env v h (c.in_ok-head.ensures.head m s v heads at))
+body-returns-in-Some-clause-holds t c = λ m base env s v h heads at.
+    subst (λ o. IfSome o (λ (known : BodyFact). IsSummary m known.summary (resolved_body c.args.bodies env v))) c.in-Some.is
+    (c.in_ok-known.ensures.holds m base env v h (c.in_ok-head.ensures.head m base s v heads at))
 
 pub body-returns-in_err-summary-clause-heavy : goal.body-returns-in_err-summary-clause-heavy
-body-returns-in_err-summary-clause-heavy t c = λ m env s v h heads at.
+body-returns-in_err-summary-clause-heavy t c = λ m base env s v h heads at.
     let p = err_from_is_err_and c.from_residual-in_err-summary.result c.from_residual-in_err-summary.ensures.1 in
-    let inside = c.bound.ensures m c.args.self.now env v h (c.in_ok-head.ensures.head m s v heads at) in
-    rw (p.1, p.2) (λ e. c.in_err-summary.ensures.heavy m (bind c.args.bodies.name.now v env) inside e)
+    let fits = c.bound.ensures.fits m c.args.self.now base env v h.fits (c.in_ok-head.ensures.head m base s v heads at) in
+    let inside = meets_within m c.args.self.now base c.args.at.scope.now c.bound.result env c.args.bodies v c.bound.ensures.names fits h.resolved in
+    rw (p.1, p.2) (λ e. c.in_err-summary.ensures.heavy m base (bind c.args.bodies.name.now v env) inside e)
 
 pub body-returns-clause-holds : goal.body-returns-clause-holds
-body-returns-clause-holds t c = λ m env s v h heads at.
-    c.in_ok-summary.ensures.holds m (bind c.args.bodies.name.now v env)
-    (c.bound.ensures m c.args.self.now env v h (c.in_ok-head.ensures.head m s v heads at))
+body-returns-clause-holds t c = λ m base env s v h heads at.
+    let fits = c.bound.ensures.fits m c.args.self.now base env v h.fits (c.in_ok-head.ensures.head m base s v heads at) in
+    c.in_ok-summary.ensures.holds m base (bind c.args.bodies.name.now v env)
+    (meets_within m c.args.self.now base c.args.at.scope.now c.bound.result env c.args.bodies v c.bound.ensures.names fits h.resolved)
 
 pub body-returns-clause-known : goal.body-returns-clause-known
 body-returns-clause-known t c = record {
-  holds = λ m env s v some fits held.
-      let same = c.held_in-member.ensures s some in
-      c.in_ok-summary.ensures.holds m (bind c.args.bodies.name.now v env)
-      (c.bound.ensures m c.args.self.now env v fits (subst (λ head. Heads m c.args.self.now head v) (sym same) held));
-  covers = λ m env s v some. cc;
+  holds = λ m base env s v some h held.
+      let same = c.held_in.ensures s some in
+      let fits = c.bound.ensures.fits m c.args.self.now base env v h.fits (subst (λ head. Heads m c.args.self.now base head v) (sym same) held) in
+      c.in_ok-summary.ensures.holds m base (bind c.args.bodies.name.now v env)
+      (meets_within m c.args.self.now base c.args.at.scope.now c.bound.result env c.args.bodies v c.bound.ensures.names fits h.resolved);
+  covers = λ m base env s v some. cc;
 }
 
 -- a body with its variable covered
 pub covered_body-returns-in_err-summary-clause-heavy : goal.covered_body-returns-in_err-summary-clause-heavy
-covered_body-returns-in_err-summary-clause-heavy t c = λ m env v fits heads.
+covered_body-returns-in_err-summary-clause-heavy t c = λ m base env v h heads.
     let p = err_from_is_err_and c.from_residual.result c.from_residual.ensures.1 in
-    let inside = c.bound.ensures covering c.args.self.now env v (fits_covering m c.args.at.scope.now c.args.self.now env fits) (c.in-Some.ensures m v heads) in
-    rw (p.1, p.2) (λ e. c.in_err-summary.ensures.heavy covering (bind c.args.bodies.name.now v env) inside e)
+    let fits = c.bound.ensures.fits covering c.args.self.now base env v (fits_covering m base c.args.at.scope.now c.args.self.now env h.fits)
+    (c.in-Some.ensures m base v heads) in
+    let inside = meets_within covering c.args.self.now base c.args.at.scope.now c.bound.result env c.args.bodies v c.bound.ensures.names fits h.resolved in
+    rw (p.1, p.2) (λ e. c.in_err-summary.ensures.heavy covering base (bind c.args.bodies.name.now v env) inside e)
 
 pub covered_body-returns-clause-known : goal.covered_body-returns-clause-known
 covered_body-returns-clause-known t c = record {
-  holds = λ m env s v some. cc;
-  covers = λ m env s v some fits leaf.
+  holds = λ m base env s v some. cc;
+  covers = λ m base env s v some h leaf.
       let sure : c.is_certain.result ≡ true = c.if-not-is_certain.false in
       let own = subst (λ x. IsOfLeaf covering x v) (sym (same_Some c.in-Some.cover s some)) leaf in
-      c.is_certain.ensures m (body_value c.args.bodies env v) sure
-      (c.in_ok-summary.ensures.holds covering (bind c.args.bodies.name.now v env)
-      (c.bound.ensures covering c.args.self.now env v (fits_covering m c.args.at.scope.now c.args.self.now env fits) own));
+      let fits = c.bound.ensures.fits covering c.args.self.now base env v (fits_covering m base c.args.at.scope.now c.args.self.now env h.fits) own in
+      c.is_certain.ensures m (resolved_body c.args.bodies env v) sure
+      (c.in_ok-summary.ensures.holds covering base (bind c.args.bodies.name.now v env)
+      (meets_within covering c.args.self.now base c.args.at.scope.now c.bound.result env c.args.bodies v c.bound.ensures.names fits h.resolved));
 }
 
 pub covered_body-returns-clause-holds : goal.covered_body-returns-clause-holds
-covered_body-returns-clause-holds t c = λ m env v fits heads.
+covered_body-returns-clause-holds t c = λ m base env v h heads.
     let sure : c.is_certain.result ≡ true = c.if-not-is_certain.false in
-    c.is_certain.ensures m (body_value c.args.bodies env v) sure
-    (c.in_ok-summary.ensures.holds covering (bind c.args.bodies.name.now v env)
-    (c.bound.ensures covering c.args.self.now env v (fits_covering m c.args.at.scope.now c.args.self.now env fits) (c.in-Some.ensures m v heads)))
+    let fits = c.bound.ensures.fits covering c.args.self.now base env v (fits_covering m base c.args.at.scope.now c.args.self.now env h.fits)
+    (c.in-Some.ensures m base v heads) in
+    c.is_certain.ensures m (resolved_body c.args.bodies env v) sure
+    (c.in_ok-summary.ensures.holds covering base (bind c.args.bodies.name.now v env)
+    (meets_within covering c.args.self.now base c.args.at.scope.now c.bound.result env c.args.bodies v c.bound.ensures.names fits h.resolved))
 
 -- stored values
-pub summary-returns-in-Some-clause-holds : goal.summary-returns-in-Some-clause-holds
-summary-returns-in-Some-clause-holds t c = λ m env h.
-    c.held.ensures.holds m (value_of (shape c.args.e.now) env) (c.in-Some.ensures m env h)
+pub head_summary-returns-in_err-less-in-Held-clause-heavy : goal.head_summary-returns-in_err-less-in-Held-clause-heavy
+head_summary-returns-in_err-less-in-Held-clause-heavy t c = λ m base v h.
+    let p = err_from_is_err_and c.from_residual.result c.from_residual.ensures.1 in
+    let held = subst (λ r. Heads m c.args.self.now base r v) c.in-Held.is h in
+    rw (p.1, p.2)
+    (λ e. omega (arith, c.in_err-less-in-Held.ensures.heavy, holds_weight v c.args.self.now c.in-Held.stored held))
 
-pub summary-returns-in_ok-less-in-Held-clause-holds : goal.summary-returns-in_ok-less-in-Held-clause-holds
-summary-returns-in_ok-less-in-Held-clause-holds t c = λ m env h.
-    let v = value_of (shape c.args.e.now) env in
-    c.held-in-Held.ensures.holds m v (subst (λ r. Heads m c.args.self.now r v) c.in-Held.is (c.in_ok-head.ensures.head m env h))
+pub head_summary-returns-in_ok-less-in-Held-clause-holds : goal.head_summary-returns-in_ok-less-in-Held-clause-holds
+head_summary-returns-in_ok-less-in-Held-clause-holds t c = λ m base v h.
+    c.held.ensures.holds m v (subst (λ r. Heads m c.args.self.now base r v) c.in-Held.is h)
+
+-- quantifiers
+pub operation-returns-in-Joined-clause-holds : goal.operation-returns-in-Joined-clause-holds
+operation-returns-in-Joined-clause-holds t c = λ m base env h o.
+    let u = c.args.self.now in
+    let scope = c.args.at.scope.now in
+    let parts = subst (IsResolved u base (names_of scope)) c.in-Joined.is h.resolved in
+    subst (λ w. IfOk c.joined_bodies.result (λ s. IsSummary m s w))
+    (ap (connected_all c.in-Joined.op) (bodies_by c.in-Joined.name env _ _ _ _ c.deref-in-Joined.ensures c.deref-in-Joined-2.ensures) ∙ sym (ap (λ r. resolved_value r env) c.in-Joined.is))
+    (c.joined_bodies.ensures.holds m base env
+    (meets_all m u base scope env _ _ _ c.deref-in-Joined.ensures c.deref-in-Joined-2.ensures h.fits parts.0 parts.1))
+
+pub operation-returns-in-Joined-clause-heavy : goal.operation-returns-in-Joined-clause-heavy
+operation-returns-in-Joined-clause-heavy t c = λ m base env h o.
+    let u = c.args.self.now in
+    let scope = c.args.at.scope.now in
+    let parts = subst (IsResolved u base (names_of scope)) c.in-Joined.is h.resolved in
+    subst (λ w. IfErr c.joined_bodies.result (λ why. why ≡ Heavy → c.args.room < weight w))
+    (ap (connected_all c.in-Joined.op) (bodies_by c.in-Joined.name env _ _ _ _ c.deref-in-Joined.ensures c.deref-in-Joined-2.ensures) ∙ sym (ap (λ r. resolved_value r env) c.in-Joined.is))
+    (c.joined_bodies.ensures.heavy m base env
+    (meets_all m u base scope env _ _ _ c.deref-in-Joined.ensures c.deref-in-Joined-2.ensures h.fits parts.0 parts.1))
+
+pub operation-returns-in-Counted-clause-holds : goal.operation-returns-in-Counted-clause-holds
+operation-returns-in-Counted-clause-holds t c = λ m base env h o.
+    let u = c.args.self.now in
+    let scope = c.args.at.scope.now in
+    let parts = subst (IsResolved u base (names_of scope)) c.in-Counted.is h.resolved in
+    subst (λ w. IfOk c.counted_bodies.result (λ s. IsSummary m s w))
+    (ap (counted c.in-Counted.op c.in-Counted.number) (bodies_by c.in-Counted.name env _ _ _ _ c.deref-in-Counted.ensures c.deref-in-Counted-2.ensures) ∙ sym (ap (λ r. resolved_value r env) c.in-Counted.is))
+    (c.counted_bodies.ensures.holds m base env
+    (meets_all m u base scope env _ _ _ c.deref-in-Counted.ensures c.deref-in-Counted-2.ensures h.fits parts.0 parts.1))
+
+pub operation-returns-in-Counted-clause-heavy : goal.operation-returns-in-Counted-clause-heavy
+operation-returns-in-Counted-clause-heavy t c = λ m base env h o.
+    let u = c.args.self.now in
+    let scope = c.args.at.scope.now in
+    let parts = subst (IsResolved u base (names_of scope)) c.in-Counted.is h.resolved in
+    subst (λ w. IfErr c.counted_bodies.result (λ why. why ≡ Heavy → c.args.room < weight w))
+    (ap (counted c.in-Counted.op c.in-Counted.number) (bodies_by c.in-Counted.name env _ _ _ _ c.deref-in-Counted.ensures c.deref-in-Counted-2.ensures) ∙ sym (ap (λ r. resolved_value r env) c.in-Counted.is))
+    (c.counted_bodies.ensures.heavy m base env
+    (meets_all m u base scope env _ _ _ c.deref-in-Counted.ensures c.deref-in-Counted-2.ensures h.fits parts.0 parts.1))

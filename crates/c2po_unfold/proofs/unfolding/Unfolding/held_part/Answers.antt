@@ -1,21 +1,6 @@
-use Rattle.std.proofs.Common.{sym, subst, length, ◌≤◌}
 use Rattle.c2po_unfold.specs.Environment.{fields_in}
-use Rattle.c2po_unfold.proofs.Members.{found_at}
-use Rattle.c2po_unfold.proofs.Parts.{held_part_some, held_part_past}
 use Rattle.c2po_unfold.proofs.unfolding.Unfolding.held_part.Goals as goal
 
-pub returns-in-Some-get : goal.returns-in-Some-get
-returns-in-Some-get c = λ m env v h k.
-    held_part_some v c.args.self.now c.args.stored c.in-Some-get.part.now c.in-Parts.i c.in-Some.parts.now _ c.in-Some-field_place.place
-    (λ y. fields_in (env y)) c.args.field.now k c.in-Parts.is
-    (found_at _ _ _ _ c.as_slice.ensures c.in-Some.ensures.lookup.3.0 c.in-Some.ensures.lookup.1) c.in-Struct.is
-    (sym (c.in-Some-field_place.ensures m env h))
-    (found_at _ _ _ _ c.as_slice-2.ensures c.in-Some-get.ensures.lookup.3.0 c.in-Some-get.ensures.lookup.1)
-
-pub returns-in-None : goal.returns-in-None
-returns-in-None c = λ m env v h k.
-    held_part_past v c.args.self.now c.args.stored c.in-Parts.i c.in-Some.parts.now _ c.in-Some-field_place.place
-    (λ y. fields_in (env y)) c.args.field.now k c.in-Parts.is
-    (found_at _ _ _ _ c.as_slice.ensures c.in-Some.ensures.lookup.3.0 c.in-Some.ensures.lookup.1) c.in-Struct.is
-    (sym (c.in-Some-field_place.ensures m env h))
-    (subst (λ xs. length xs ≤ c.in-Some-field_place.place) c.as_slice-2.ensures c.in-None.ensures.lookup.3)
+pub returns-in-Some : goal.returns-in-Some
+returns-in-Some c = λ m base env v f p h.
+    c.part_at.ensures (λ y. fields_in (env y)) c.in-Some.whole.now c.args.field.now v h c.in-Some.ensures (c.hinted_place-place.ensures m base env f p)

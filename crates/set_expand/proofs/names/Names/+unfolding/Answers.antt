@@ -7,7 +7,8 @@ use Rattle.c2po_ast.specs.Shape.{shape}
 use Rattle.c2po_unfold.specs.Values.{members, formula_of, truth_value, connected_all, counted}
 use Rattle.c2po_unfold.specs.Environment.{value_of}
 use Rattle.c2po_unfold.specs.Operators.{bodies_over, bodies_of, body_value, operation_value}
-use Rattle.c2po_unfold.proofs.Loops.{bodies_count, body_at, member_at}
+use Rattle.c2po_unfold.proofs.Loops.{member_at}
+use Rattle.set_expand.proofs.Members.{bodies_count, body_at}
 use Rattle.set_expand.specs.declared.nodes.Made.TheVariants as made
 use Rattle.set_expand.specs.Heads.{env_in, head_value}
 use Rattle.set_expand.specs.Light.{IsLight}

@@ -1,0 +1,35 @@
+-- Variables of quantifiers, which are members of sets.
+
+use Rattle.std.specs.Prelude.{ℕ, ◌≡◌, List, [], ◌∷◌}
+use Rattle.c2po_unfold.specs.declared.resolved.Resolved.{Resolved}
+use Rattle.c2po_unfold.specs.declared.scope.Scope.{Scope, Top, Open', Held', Covered'}
+use Rattle.c2po_unfold.specs.declared.unfolding.Unfolding.{Unfolding}
+use Rattle.c2po_unfold.specs.Values.{Value}
+use Rattle.c2po_unfold.specs.Covering.{Mode}
+use Rattle.c2po_unfold.specs.Environment.{Env, bind}
+use Rattle.c2po_unfold.specs.Holding.{Holds, StandsFor}
+use Rattle.c2po_unfold.specs.Resolving.{IsResolved, resolved_value}
+use Rattle.c2po_unfold.specs.Summaries.{IsOfLeaf}
+
+-- the names of variables, the innermost first
+abbrev pub names_of : Scope → List (List ℕ)
+names_of Top = []
+names_of (Open' x e _ within _ outer) = x.now ∷ names_of outer
+names_of (Held' x s i _ outer) = x.now ∷ names_of outer
+names_of (Covered' x s _ outer) = x.now ∷ names_of outer
+
+-- variables within an unfolding represent an environment, over the meanings of declared names
+abbrev pub Fits : Mode → Unfolding → Env → Scope → Env → Type 0
+Fits m u base Top env = StandsFor u base × (env ≡ base)
+Fits m u base (Open' x e _ within _ outer) env =
+    (inner : Env) × (around : Env) × Fits m u base within inner × IsResolved u base (names_of within) e.now
+    × Fits m u base outer around × (env ≡ bind x.now (resolved_value e.now inner) around)
+Fits m u base (Held' x s i _ outer) env =
+    (v : Value) × (around : Env) × Holds u s v × Fits m u base outer around × (env ≡ bind x.now v around)
+Fits m u base (Covered' x s _ outer) env =
+    (v : Value) × (around : Env) × IsOfLeaf m s.now v × Fits m u base outer around × (env ≡ bind x.now v around)
+
+-- the same, and the names of an expression within them are resolved
+pub record Meets (m : Mode) (u : Unfolding) (base : Env) (scope : Scope) (env : Env) (e : Resolved) : Type 0 where
+  pub fits : Fits m u base scope env
+  pub resolved : IsResolved u base (names_of scope) e
