@@ -28,17 +28,6 @@ impl Cursor {
         }
     }
 
-    /// The search found nothing: all `outs` outputs were reported.
-    pub fn past(outs: usize) -> Cursor
-        ensures out { result.out ≡ outs }
-        ensures none { result.stretch ≡ None }
-    {
-        Cursor {
-            out: outs,
-            stretch: None,
-        }
-    }
-
     /// Continues the search after a report of an output up to `time`, after `rows` rows: at the next output where no
     /// further time can be known, else at this one, with what is left of the run.
     pub fn move_after(&mut self, out: usize, time: u64, stretch: Stretch, rows: u64)
@@ -53,12 +42,23 @@ impl Cursor {
     {
         if time + 1 == rows {
             self.out = out + 1;
-            self.stretch = None;
+            self.forget();
         } else if time < stretch.last {
             self.out = out;
             self.stretch = Some(stretch);
         } else {
             self.out = out;
+            self.forget();
+        }
+    }
+
+    /// Drops the stretch. Where there is none, as mostly, nothing is written.
+    #[inline(always)]
+    fn forget(&mut self)
+        ensures out { self.new.out ≡ self.old.out }
+        ensures none { self.new.stretch ≡ None }
+    {
+        if self.stretch.is_some() {
             self.stretch = None;
         }
     }

@@ -184,6 +184,62 @@ impl Engines<'_> {
         None
     }
 
+    /// What `first_open` gives, with a look at the output `first` before the loop over those after it: where that output is
+    /// open no loop is set up.
+    #[inline(always)]
+    fn first_open_here<L: Ledger>(
+        &self,
+        program: &Program,
+        next_times: &[u64],
+        first: usize,
+        steps: &mut Steps<L>,
+    ) -> Option<(usize, Stretch)>
+        requires readable { AreReadable program.now self.now next_times.now }
+        requires same_length { length next_times.now ≡ length program.now.outs }
+        requires told { (rows : List Row) → HaveTaken program.now rows self.now
+            → AreKnown program.now rows next_times.now
+            → AreTold program.now rows next_times.now first }
+        ensures finds { (rows : List Row) → HaveTaken program.now rows self.now
+            → AreKnown program.now rows next_times.now
+            → FindsOpen program.now rows next_times.now result }
+        ensures counted { LooksOnward (length next_times.now) first result steps.old steps.new }
+    {
+        if first >= program.outs.len() {
+            return None;
+        }
+        steps.tick();
+        match self.stretch_from(program.outs.get(first), next_times[first]) {
+            Some(stretch) => Some((first, stretch)),
+            None => self.first_open(program, next_times, first + 1, steps),
+        }
+    }
+
+    /// What `next_open` gives, with a look at the cursor's output before the loop over those after it.
+    #[inline(always)]
+    pub fn next_open_here<L: Ledger>(
+        &self,
+        program: &Program,
+        next_times: &[u64],
+        cursor: Cursor,
+        steps: &mut Steps<L>,
+    ) -> Option<(usize, Stretch)>
+        requires readable { AreReadable program.now self.now next_times.now }
+        requires same_length { length next_times.now ≡ length program.now.outs }
+        requires cursor { FitsEngines program.now self.now next_times.now cursor }
+        ensures finds { (rows : List Row) → HaveTaken program.now rows self.now
+            → AreKnown program.now rows next_times.now
+            → FindsOpen program.now rows next_times.now result }
+        ensures goes_on { (stretch : Found) → cursor.stretch ≡ Some stretch
+            → result ≡ Some (cursor.out, stretch) }
+        ensures counted { LooksOnward (length next_times.now) cursor.out result
+            steps.old steps.new }
+    {
+        match cursor.stretch {
+            Some(stretch) => Some((cursor.out, stretch)),
+            None => self.first_open_here(program, next_times, cursor.out, steps),
+        }
+    }
+
     /// The first output with a known word at its next time, and the longest stretch of it; the search goes on at a cursor.
     #[inline(always)]
     pub fn next_open<L: Ledger>(

@@ -14,8 +14,8 @@ use obs_verify::Checked;
 use std::sync::ledger::Ledger;
 
 /// Gives the first report that the outputs' next times leave open, and moves its output's next time past it. `None`, and no
-/// change of these times, where none is open. The search goes on at the cursor, which is past all outputs then. Its steps
-/// are itself and the outputs that it looks at.
+/// change of these times, where none is open. The search goes on at the cursor, which is past all outputs then, and has no
+/// stretch, since the search would have given that. Its steps are itself and the outputs that it looks at.
 #[inline(always)]
 pub fn tell_first<L: Ledger>(
     style: Style,
@@ -39,9 +39,10 @@ pub fn tell_first<L: Ledger>(
         ≤ steps.old + outs_after next_times.old cursor.old + 2 }
 {
     steps.tick();
-    match engines.next_open(checked.program(), next_times, *cursor, steps) {
+    let program = checked.program();
+    match engines.next_open_here(program, next_times, *cursor, steps) {
         None => {
-            *cursor = Cursor::past(next_times.len());
+            cursor.out = program.outs.len();
             None
         }
         Some((k, stretch)) => {
