@@ -11,20 +11,22 @@ ghost use Rattle.c2po_unfold.specs.Weights.{counting_weight};
 
 use crate::UnfoldFault;
 use crate::fact::Fact;
+use crate::room::Room;
 use mltl_base::CountOp;
 
 /// Returns the weight of a counting quantifier over `n` bodies without those.
-pub(crate) fn gates_weight(n: usize, number: u64, room: u32) -> Result<u32, UnfoldFault>
+pub(crate) fn gates_weight(n: usize, number: u64, room: Room) -> Result<u32, UnfoldFault>
     ensures weight { IfOk result (λ w. w ≡ counting_weight n number) }
     ensures light { IfOk result (λ w. w ≤ room) }
     ensures heavy { IfErr result (λ why. room < counting_weight n number) }
 {
-    if n > room as usize {
+    let most = room.get();
+    if n > most as usize {
         return Err(UnfoldFault::Heavy);
     }
     let bodies = n as u128;
     let weight = 2 * bodies * (u128::from(number).min(bodies) + 1) + 4;
-    if weight <= u128::from(room) {
+    if weight <= u128::from(most) {
         Ok(weight as u32)
     } else {
         Err(UnfoldFault::Heavy)

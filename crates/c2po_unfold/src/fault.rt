@@ -1,7 +1,7 @@
 //! Why an expression isn't unfolded.
 
-ghost use Rattle.std.specs.Prelude.{◌≡◌, ◌+◌, ◌<◌, IfOk, IfErr};
-ghost use Rattle.c2po_unfold.specs.declared.fault.UnfoldFault.TheVariants.{Heavy, Memory};
+ghost use Rattle.std.specs.Prelude.{◌≡◌, ◌+◌, IfOk, IfErr};
+ghost use Rattle.c2po_unfold.specs.declared.fault.UnfoldFault.TheVariants.{Memory};
 
 use std::alloc::{AllocError, AllocFailed};
 
@@ -28,14 +28,6 @@ impl From<AllocError> for UnfoldFault {
     fn from(_refused: AllocError) -> UnfoldFault {
         UnfoldFault::Memory
     }
-}
-
-/// Returns the room that a weight leaves.
-pub(crate) fn less(room: u32, weight: u32) -> Result<u32, UnfoldFault>
-    ensures left { IfOk result (λ left. left + weight ≡ room) }
-    ensures heavy { IfErr result (λ why. room < weight) }
-{
-    room.checked_sub(weight).ok_or(UnfoldFault::Heavy)
 }
 
 /// The number of levels that may be nested within one more level. The program's stack ends long before this number.

@@ -16,6 +16,7 @@ pub mod meanings;
 pub mod operators;
 pub mod resolve;
 pub mod resolved;
+pub mod room;
 pub mod samples;
 pub mod scope;
 pub mod storing;

@@ -1,7 +1,6 @@
 //! The values of definitions.
 
 ghost use Rattle.std.specs.Prelude.{◌≡◌, ◌+◌, ◌<◌, ◌≤◌, IfOk, IfErr, OnOk};
-ghost use Rattle.mltl_base.specs.declared.limits.TheConstants.{MAX_WEIGHT};
 ghost use Rattle.c2po_unfold.specs.declared.fault.UnfoldFault.TheVariants.{Heavy};
 ghost use Rattle.c2po_unfold.specs.Covering.{exact};
 ghost use Rattle.c2po_unfold.specs.Environment.{Env};
@@ -13,8 +12,9 @@ ghost use Rattle.c2po_unfold.specs.Values.{Value};
 ghost use Rattle.c2po_unfold.specs.Weights.{parts_weight, weight};
 
 use crate::fact::Fact;
-use crate::fault::{deeper, less};
+use crate::fault::deeper;
 use crate::resolved::Resolved;
+use crate::room::Room;
 use crate::scope::{Head, Site};
 use crate::summary::Summary;
 use crate::values::{Stored, Whole};
@@ -30,9 +30,8 @@ impl Unfolding {
         alloc: Global,
         at: Site<'_>,
         e: &Resolved,
-        room: u32,
+        room: Room,
     ) -> Result<Stored, UnfoldFault>
-        requires { room ≤ MAX_WEIGHT }
         ensures later { OnOk result (IsLater self.old self.new) }
         ensures light { IfOk result (λ s. s.weight ≤ room) }
         ensures holds { (base env : Env) → Meets exact self.old base at.entry.scope.now env e.now
@@ -52,9 +51,8 @@ impl Unfolding {
         alloc: Global,
         depth: u32,
         head: Head<'_>,
-        room: u32,
+        room: Room,
     ) -> Result<Stored, UnfoldFault>
-        requires { room ≤ MAX_WEIGHT }
         ensures later { OnOk result (IsLater self.old self.new) }
         ensures light { IfOk result (λ s. s.weight ≤ room) }
         ensures holds { (base : Env) (v : Value) → Heads exact self.old base head.entry v
@@ -65,11 +63,11 @@ impl Unfolding {
         match head {
             Head::Nothing(..) => Ok(self.add_leaf(Summary::token(Fact::truth(), room)?)?),
             Head::Held(stored) => {
-                less(room, stored.weight)?;
+                room.less(stored.weight)?;
                 Ok(stored)
             }
             Head::Covered(summary) => {
-                less(room, summary.weight)?;
+                room.less(summary.weight)?;
                 Ok(self.add_leaf(*summary)?)
             }
             Head::Struct(scope, _, name, parts) => {
@@ -95,9 +93,8 @@ impl Unfolding {
         alloc: Global,
         at: Site<'_>,
         es: &[Resolved],
-        room: u32,
+        room: Room,
     ) -> Result<(List<Stored>, u32), UnfoldFault>
-        requires { room ≤ MAX_WEIGHT }
         ensures later { OnOk result (IsLater self.old self.new) }
         ensures light { IfOk result (λ r. r.1 ≤ room) }
         ensures holds { (base env : Env) → Fits exact self.old base at.entry.scope.now env
@@ -111,13 +108,13 @@ impl Unfolding {
             → IfErr result (λ why. why ≡ Heavy
             → room < 1 + parts_weight (resolved_values es.now env)) }
     {
-        let mut left = less(room, 1)?;
+        let mut left = room.less(1)?;
         let mut members = List::new(alloc);
         for e in es {
             let member = self.store(alloc, at, e, left)?;
-            left -= member.weight;
+            left = left.without(member.weight);
             members.push(member)?;
         }
-        Ok((members, room - left))
+        Ok((members, room.get() - left.get()))
     }
 }

@@ -14,8 +14,8 @@ ghost use Rattle.c2po_unfold.specs.Weights.{leaf_weight};
 
 use crate::UnfoldFault;
 use crate::fact::Fact;
-use crate::fault::less;
 use crate::operators::{BinaryOp, UnaryOp};
+use crate::room::Room;
 
 /// What is known of a value: its weight, and where it is an integer or a formula, the range, or the first fault and
 /// the tenses.
@@ -27,13 +27,13 @@ pub struct Summary {
 
 impl Summary {
     /// Returns what is known of a number or of a Boolean, which weighs one.
-    pub(crate) fn token(fact: Fact, room: u32) -> Result<Summary, UnfoldFault>
+    pub(crate) fn token(fact: Fact, room: Room) -> Result<Summary, UnfoldFault>
         ensures light { IfOk result (λ s. s.weight ≤ room) }
         ensures holds { (m : Mode) (l : Leaf) → leaf_weight l ≡ 1
             → Tells fact (Some (leaf_tree l)) → IfOk result (λ s. IsSummary m s (leaf l)) }
         ensures heavy { IfErr result (λ why. why ≡ Heavy → room < 1) }
     {
-        less(room, 1)?;
+        room.less(1)?;
         Ok(Summary { weight: 1, fact })
     }
 

@@ -1,7 +1,6 @@
 //! What is known of expressions, without their nodes.
 
 ghost use Rattle.std.specs.Prelude.{◌≡◌, ◌+◌, ◌<◌, ◌≤◌, true, length, map, sum_by, slice_get, Some, None, IfOk, IfErr, IfSome};
-ghost use Rattle.mltl_base.specs.declared.limits.TheConstants.{MAX_WEIGHT};
 ghost use Rattle.c2po_unfold.specs.Facts.{Tells};
 ghost use Rattle.c2po_nodes.specs.Nodes.{formula};
 ghost use Rattle.c2po_unfold.specs.declared.fault.UnfoldFault.TheVariants.{Heavy};
@@ -23,9 +22,10 @@ ghost use Rattle.c2po_unfold.specs.Weights.{parts_weight, weight};
 
 use crate::counting::{counted_fact, gates_weight};
 use crate::fact::Fact;
-use crate::fault::{deeper, less};
+use crate::fault::deeper;
 use crate::operators::{BinaryOp, UnaryOp};
 use crate::resolved::{Quantified, Resolved};
+use crate::room::Room;
 use crate::scope::{Head, Scope, Site};
 use crate::summary::Summary;
 use crate::values::{Location, Stored};
@@ -38,7 +38,7 @@ use mltl_base::{CountOp, LogicOp};
 pub(crate) struct Gathered {
     count: usize,
     fact: Fact,
-    left: u32,
+    left: Room,
 }
 
 /// The stored value that a member leads to, if it does.
@@ -204,9 +204,8 @@ impl Unfolding {
         &self,
         at: Site<'_>,
         e: &Resolved,
-        room: u32,
+        room: Room,
     ) -> Result<Summary, UnfoldFault>
-        requires { room ≤ MAX_WEIGHT }
         ensures light { IfOk result (λ s. s.weight ≤ room) }
         ensures holds { (m : Mode) (base env : Env)
             → Meets m self.now base at.entry.scope.now env e.now
@@ -229,8 +228,7 @@ impl Unfolding {
 
     /// What is known of the value that an expression leads to.
     #[cycle(summing)]
-    fn head_summary(&self, depth: u32, head: Head<'_>, room: u32) -> Result<Summary, UnfoldFault>
-        requires { room ≤ MAX_WEIGHT }
+    fn head_summary(&self, depth: u32, head: Head<'_>, room: Room) -> Result<Summary, UnfoldFault>
         ensures light { IfOk result (λ s. s.weight ≤ room) }
         ensures holds { (m : Mode) (base : Env) (v : Value) → Heads m self.now base head.entry v
             → IfOk result (λ s. IsSummary m s v) }
@@ -240,11 +238,11 @@ impl Unfolding {
         match head {
             Head::Nothing(..) => Summary::token(Fact::truth(), room),
             Head::Held(stored) => {
-                less(room, stored.weight)?;
+                room.less(stored.weight)?;
                 Ok(self.held(stored))
             }
             Head::Covered(summary) => {
-                less(room, summary.weight)?;
+                room.less(summary.weight)?;
                 Ok(*summary)
             }
             Head::Struct(scope, _, _, parts) => {
@@ -263,9 +261,8 @@ impl Unfolding {
         &self,
         at: Site<'_>,
         es: &[Resolved],
-        room: u32,
+        room: Room,
     ) -> Result<Summary, UnfoldFault>
-        requires { room ≤ MAX_WEIGHT }
         ensures light { IfOk result (λ s. s.weight ≤ room) }
         ensures parts { IfOk result (λ s. s.fact ≡ Parts) }
         ensures weight { (m : Mode) (base env : Env) → Fits m self.now base at.entry.scope.now env
@@ -276,13 +273,13 @@ impl Unfolding {
             → IfErr result (λ why. why ≡ Heavy
             → room < 1 + parts_weight (resolved_values es.now env)) }
     {
-        let mut left = less(room, 1)?;
+        let mut left = room.less(1)?;
         for e in es {
             let member = self.summary(at, e, left)?;
-            left -= member.weight;
+            left = left.without(member.weight);
         }
         Ok(Summary {
-            weight: room - left,
+            weight: room.get() - left.get(),
             fact: Fact::Parts,
         })
     }
@@ -293,9 +290,8 @@ impl Unfolding {
         &self,
         at: Site<'_>,
         e: &Resolved,
-        room: u32,
+        room: Room,
     ) -> Result<Summary, UnfoldFault>
-        requires { room ≤ MAX_WEIGHT }
         ensures light { IfOk result (λ s. s.weight ≤ room) }
         ensures holds { (m : Mode) (base env : Env)
             → Meets m self.now base at.entry.scope.now env e.now → is_operation e.now ≡ true
@@ -325,9 +321,8 @@ impl Unfolding {
         at: Site<'_>,
         op: UnaryOp,
         a: &Resolved,
-        room: u32,
+        room: Room,
     ) -> Result<Summary, UnfoldFault>
-        requires { room ≤ MAX_WEIGHT }
         ensures light { IfOk result (λ s. s.weight ≤ room) }
         ensures holds { (m : Mode) (base env : Env)
             → Meets m self.now base at.entry.scope.now env a.now
@@ -336,7 +331,7 @@ impl Unfolding {
             → Meets m self.now base at.entry.scope.now env a.now → IfErr result
             (λ why. why ≡ Heavy → room < weight (unary_value op (resolved_value a.now env))) }
     {
-        let left = less(room, 1)?;
+        let left = room.less(1)?;
         let a = self.summary(at, a, left)?;
         Ok(Summary::over_one(op, &a))
     }
@@ -349,9 +344,8 @@ impl Unfolding {
         op: BinaryOp,
         a: &Resolved,
         b: &Resolved,
-        room: u32,
+        room: Room,
     ) -> Result<Summary, UnfoldFault>
-        requires { room ≤ MAX_WEIGHT }
         ensures light { IfOk result (λ s. s.weight ≤ room) }
         ensures holds { (m : Mode) (base env : Env)
             → Meets m self.now base at.entry.scope.now env a.now
@@ -364,9 +358,9 @@ impl Unfolding {
             → IfErr result (λ why. why ≡ Heavy → room < weight
             (binary_value op (resolved_value a.now env) (resolved_value b.now env))) }
     {
-        let left = less(room, 1)?;
+        let left = room.less(1)?;
         let a = self.summary(at, a, left)?;
-        let b = self.summary(at, b, left - a.weight)?;
+        let b = self.summary(at, b, left.without(a.weight))?;
         Ok(Summary::over_two(op, &a, &b))
     }
 
@@ -377,9 +371,8 @@ impl Unfolding {
         at: Site<'_>,
         op: LogicOp,
         bodies: Quantified<'_>,
-        room: u32,
+        room: Room,
     ) -> Result<Summary, UnfoldFault>
-        requires { room ≤ MAX_WEIGHT }
         ensures light { IfOk result (λ s. s.weight ≤ room) }
         ensures holds { (m : Mode) (base env : Env)
             → MeetsAll m self.now base at.entry.scope.now env bodies.entry
@@ -397,7 +390,7 @@ impl Unfolding {
         let mut all = first.summary.as_formula();
         let mut last = first;
         for i in 1..count {
-            let left = less(room - all.weight, 1)?;
+            let left = room.without(all.weight).less(1)?;
             let next = self.body(at, bodies, &set, i, last, left)?;
             all = Summary::over_two(BinaryOp::Logic(op), &all, &next.summary);
             last = next;
@@ -415,10 +408,9 @@ impl Unfolding {
         set: &Head<'_>,
         i: usize,
         last: BodyFact,
-        room: u32,
+        room: Room,
     ) -> Result<BodyFact, UnfoldFault>
-        requires bounded { room ≤ MAX_WEIGHT }
-        requires known { IsOfBody self.now at.scope.now bodies last }
+        requires { IsOfBody self.now at.scope.now bodies last }
         ensures light { IfOk result (λ r. r.summary.weight ≤ room) }
         ensures holds { (m : Mode) (base env : Env) (s v : Value)
             → MeetsBody m self.now base at.entry.scope.now env bodies.entry
@@ -432,7 +424,7 @@ impl Unfolding {
     {
         let head = self.member(at.depth, set, i)?;
         if self.is_known(&last, &head) {
-            less(room, last.summary.weight)?;
+            room.less(last.summary.weight)?;
             return Ok(last);
         }
         if i == 0 {
@@ -458,9 +450,8 @@ impl Unfolding {
         bodies: Quantified<'_>,
         set: &Head<'_>,
         first: &Head<'_>,
-        room: u32,
+        room: Room,
     ) -> Result<Option<BodyFact>, UnfoldFault>
-        requires { room ≤ MAX_WEIGHT }
         ensures light { IfOk result (λ r. IfSome r (λ known. known.summary.weight ≤ room)) }
         ensures known { IfOk result (λ r. IfSome r (λ known.
             IsOfBody self.now at.entry.scope.now bodies.entry known)) }
@@ -496,9 +487,8 @@ impl Unfolding {
         op: CountOp,
         number: u64,
         bodies: Quantified<'_>,
-        room: u32,
+        room: Room,
     ) -> Result<Summary, UnfoldFault>
-        requires { room ≤ MAX_WEIGHT }
         ensures light { IfOk result (λ s. s.weight ≤ room) }
         ensures holds { (m : Mode) (base env : Env)
             → MeetsAll m self.now base at.entry.scope.now env bodies.entry
@@ -514,7 +504,7 @@ impl Unfolding {
         }
         let gates = gates_weight(all.count, number, all.left)?;
         Ok(Summary {
-            weight: room - all.left + gates,
+            weight: room.get() - all.left.get() + gates,
             fact: counted_fact(op, all.count, number, all.fact),
         })
     }
@@ -525,9 +515,8 @@ impl Unfolding {
         &self,
         at: Site<'_>,
         bodies: Quantified<'_>,
-        room: u32,
+        room: Room,
     ) -> Result<Gathered, UnfoldFault>
-        requires { room ≤ MAX_WEIGHT }
         ensures light { IfOk result (λ r. r.left ≤ room) }
         ensures count { (m : Mode) (base env : Env)
             → MeetsAll m self.now base at.entry.scope.now env bodies.entry
@@ -550,7 +539,7 @@ impl Unfolding {
         let mut last = BodyFact::none();
         for i in 0..count {
             let next = self.body(at, bodies, &set, i, last, left)?;
-            left -= next.summary.weight;
+            left = left.without(next.summary.weight);
             fact = Fact::joined(&next.summary.fact, &fact);
             last = next;
         }

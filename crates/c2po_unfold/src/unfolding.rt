@@ -20,6 +20,7 @@ use crate::fact::{Fact, Tenses, fault_of, first_fault, tenses_of};
 use crate::fields::Fields;
 use crate::meanings::Meanings;
 use crate::resolve::{Around, Maker};
+use crate::room::Room;
 use crate::scope::{Scope, Site};
 use crate::summary::{Summary, signal_fact};
 use crate::values::{Entry, Location, Parts, Stored, Whole};
@@ -118,7 +119,7 @@ impl Unfolding {
             depth: DEPTH,
             scope: &Scope::Top,
         };
-        let stored = self.store(alloc, at, &e, room)?;
+        let stored = self.store(alloc, at, &e, Room::of(room))?;
         self.declare(alloc, name, Entry::Value(stored))?;
         Ok(stored.fault)
     }
@@ -139,7 +140,7 @@ impl Unfolding {
             depth: DEPTH,
             scope: &Scope::Top,
         };
-        let Summary { weight, fact } = self.summary(at, &e, room)?;
+        let Summary { weight, fact } = self.summary(at, &e, Room::of(room))?;
         Ok(Weighed {
             weight,
             fault: fault_of(&fact),

@@ -1,4 +1,4 @@
-use Rattle.std.proofs.Common.{◌∙◌, ◌+◌, ◌-◌, refl, sym, subst, List, take, arith}
+use Rattle.std.proofs.Common.{◌≡◌, ◌∙◌, ◌+◌, ◌-◌, refl, sym, subst, List, take, arith}
 use Rattle.std.proofs.lemmas.Result.{err_from_is_err_and}
 use Rattle.c2po_unfold.specs.declared.values.Stored.{Stored}
 use Rattle.c2po_unfold.specs.Covering.{exact}
@@ -24,12 +24,14 @@ store_all-returns-in_err-member-clause-heavy t c = λ base env h all.
 
 pub store_all-loop-e-preserved : goal.store_all-loop-e-preserved
 store_all-loop-e-preserved t c =
-    subst (λ (done : List Stored). BuiltSoFar c.args.self.now c.store.new.self c.args.at.scope.now c.args.es.now (take (c.loop-e.e-index + 1) c.args.es.now) done c.args.room
+    let left : c.loop-e.left - c.in_ok-member.member.weight ≡ c.without-left.result = omega (arith, c.without-left.ensures) in
+    subst (BuiltSoFar c.args.self.now c.store.new.self c.args.at.scope.now c.args.es.now (take (c.loop-e.e-index + 1) c.args.es.now) c.push.new.self c.args.room) left
+    (subst (λ (done : List Stored). BuiltSoFar c.args.self.now c.store.new.self c.args.at.scope.now c.args.es.now (take (c.loop-e.e-index + 1) c.args.es.now) done c.args.room
     (c.loop-e.left - c.in_ok-member.member.weight)) (sym c.in_ok-push.ensures.pushed)
     (built_more c.args.self.now c.loop-e.self c.store.new.self c.args.at.scope.now c.args.es.now c.loop-e.e-index c.e-item.result c.loop-e.members c.in_ok-member.member
     c.args.room c.loop-e.left c.loop-e.invariant
     (found_at c.args.es.now c.args.es.now c.loop-e.e-index c.e-item.result refl c.loop-e-test.true c.e-item.is)
-    c.in_ok-member.ensures.later c.in_ok-member.ensures.holds c.in_ok-member.ensures.light)
+    c.in_ok-member.ensures.later c.in_ok-member.ensures.holds c.in_ok-member.ensures.light))
 
 pub store_head-returns-in_ok-add_leaf-in-Leaf-clause-holds : goal.store_head-returns-in_ok-add_leaf-in-Leaf-clause-holds
 store_head-returns-in_ok-add_leaf-in-Leaf-clause-holds t c = λ base v h.

@@ -1,4 +1,4 @@
-use Rattle.std.proofs.Common.{◌≡◌, ◌+◌, ◌<◌, true, false, Some, [], IfOk, IfErr, IfSome, map, refl, sym, subst, ap, ◌∙◌, take, length, get_or, slice_get, sum_by, arith}
+use Rattle.std.proofs.Common.{◌≡◌, ◌+◌, ◌-◌, ◌<◌, true, false, Some, [], IfOk, IfErr, IfSome, map, refl, sym, subst, ap, ◌∙◌, take, length, get_or, slice_get, sum_by, arith}
 use Rattle.std.proofs.lemmas.List.{take_all, length-map}
 use Rattle.std.proofs.lemmas.Result.{err_from_is_err_and}
 use Rattle.std.proofs.lemmas.Option.{same_Some}
@@ -17,7 +17,7 @@ use Rattle.c2po_unfold.specs.Heads.{Heads}
 use Rattle.c2po_unfold.specs.Scopes.{names_of}
 use Rattle.c2po_unfold.specs.Summaries.{IsOfLeaf, IsSummary, gathered}
 use Rattle.c2po_unfold.proofs.Members.{found_at, holds_weight}
-use Rattle.c2po_unfold.proofs.Loops.{bodies_by, meets_all, meets_at, weighed_more, weight_within, bodies_count, body_at, member_at, none_left, weights_back, joined_first, joined_one, joined_known, joined_within, not_known, sum_within, meets_within, gathered_more, counted_tells, counted_weight}
+use Rattle.c2po_unfold.proofs.Loops.{WeighedSoFar, GatheredSoFar, bodies_by, meets_all, meets_at, weighed_more, weight_within, bodies_count, body_at, member_at, none_left, weights_back, joined_first, joined_one, joined_known, joined_within, not_known, sum_within, meets_within, gathered_more, counted_tells, counted_weight}
 use Rattle.c2po_unfold.proofs.unfolding.Unfolding.+summing.Goals as goal
 
 pub binary-returns-in_err-b-clause-heavy : goal.binary-returns-in_err-b-clause-heavy
@@ -47,10 +47,12 @@ parts_summary-returns-in_err-member-clause-heavy t c = λ m base env h all.
 
 pub parts_summary-loop-e-preserved : goal.parts_summary-loop-e-preserved
 parts_summary-loop-e-preserved t c =
-    weighed_more c.args.self.now c.args.at.scope.now c.args.es.now c.loop-e.e-index c.e-item.result c.in_ok-member.member
+    let left : c.loop-e.left - c.in_ok-member.member.weight ≡ c.without-left.result = omega (arith, c.without-left.ensures) in
+    subst (WeighedSoFar c.args.self.now c.args.at.scope.now c.args.es.now (take (c.loop-e.e-index + 1) c.args.es.now) c.args.room) left
+    (weighed_more c.args.self.now c.args.at.scope.now c.args.es.now c.loop-e.e-index c.e-item.result c.in_ok-member.member
     c.args.room c.loop-e.left c.loop-e.invariant
     (found_at c.args.es.now c.args.es.now c.loop-e.e-index c.e-item.result refl c.loop-e-test.true c.e-item.is)
-    c.in_ok-member.ensures.holds c.in_ok-member.ensures.light
+    c.in_ok-member.ensures.holds c.in_ok-member.ensures.light)
 
 pub joined_bodies-returns-in_err-first-clause-heavy : goal.joined_bodies-returns-in_err-first-clause-heavy
 joined_bodies-returns-in_err-first-clause-heavy t c = λ m base env h.
@@ -165,10 +167,12 @@ gather-returns-in_err-next-clause-heavy t c = λ m base env h.
 
 pub gather-loop-i-preserved : goal.gather-loop-i-preserved
 gather-loop-i-preserved t c =
-    gathered_more c.args.self.now c.args.at.scope.now c.in_ok-set.set c.args.bodies c.args.room c.loop-i.i c.loop-i.fact c.joined-fact.result c.loop-i.left
+    let left : c.loop-i.left - c.in_ok-next.next.summary.weight ≡ c.without-left.result = omega (arith, c.without-left.ensures) in
+    subst (λ n. GatheredSoFar c.args.self.now c.args.at.scope.now c.in_ok-set.set c.args.bodies c.args.room (c.loop-i.i + 1) c.joined-fact.result n c.in_ok-next.next) left
+    (gathered_more c.args.self.now c.args.at.scope.now c.in_ok-set.set c.args.bodies c.args.room c.loop-i.i c.loop-i.fact c.joined-fact.result c.loop-i.left
     c.loop-i.last c.in_ok-next.next c.loop-i.invariant c.in_ok-next.ensures.light
     (λ m base s heads. omega (arith, c.member_count-count.ensures m base s heads, c.loop-i-test.true))
-    c.in_ok-next.ensures.holds c.in_ok-next.ensures.known (λ m o q h k. c.joined-fact.ensures m Or o q h k)
+    c.in_ok-next.ensures.holds c.in_ok-next.ensures.known (λ m o q h k. c.joined-fact.ensures m Or o q h k))
 
 pub gather-returns-clause-fact : goal.gather-returns-clause-fact
 gather-returns-clause-fact t c = λ m base env h.
@@ -215,12 +219,12 @@ gather-loop-i-init t c = record {
 pub body-returns-in_err-less-clause-heavy : goal.body-returns-in_err-less-clause-heavy
 body-returns-in_err-less-clause-heavy t c = λ m base env s v h heads at.
     let p = err_from_is_err_and c.from_residual-in_err-less.result c.from_residual-in_err-less.ensures.1 in
-    let known = c.is_known.ensures m c.args.at.scope.now c.args.bodies base env v c.if-is_known.true c.requires.known h (c.in_ok-head.ensures.head m base s v heads at) in
+    let known = c.is_known.ensures m c.args.at.scope.now c.args.bodies base env v c.if-is_known.true c.requires h (c.in_ok-head.ensures.head m base s v heads at) in
     rw (p.1, p.2) (λ e. omega (arith, c.in_err-less.ensures.heavy, known.weight))
 
 pub body-returns-then-is_known-clause-holds : goal.body-returns-then-is_known-clause-holds
 body-returns-then-is_known-clause-holds t c = λ m base env s v h heads at.
-    c.is_known.ensures m c.args.at.scope.now c.args.bodies base env v c.if-is_known.true c.requires.known h (c.in_ok-head.ensures.head m base s v heads at)
+    c.is_known.ensures m c.args.at.scope.now c.args.bodies base env v c.if-is_known.true c.requires h (c.in_ok-head.ensures.head m base s v heads at)
 
 -- quantifiers over no member
 pub joined_bodies-returns-then-count-eq0-clause-holds : goal.joined_bodies-returns-then-count-eq0-clause-holds

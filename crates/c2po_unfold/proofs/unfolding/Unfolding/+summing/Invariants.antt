@@ -42,4 +42,4 @@ abbrev pub invariant-joined_bodies-loop-i : goal.invariant-joined_bodies-loop-i
 invariant-joined_bodies-loop-i l = JoinedSoFar l.self l.at.scope.now l.set l.bodies l.op l.room l.i l.all l.last
 
 abbrev pub invariant-gather-loop-i : goal.invariant-gather-loop-i
-invariant-gather-loop-i l = GatheredSoFar l.self l.at.scope.now l.set l.bodies l.room l.i l.fact l.left l.last
+invariant-gather-loop-i l = GatheredSoFar l.self l.at.scope.now l.set l.bodies l.fn.room l.i l.fact l.left l.last

@@ -15,7 +15,8 @@ returns-in_err-stored-clause-heavy c = λ env h.
     let p = err_from_is_err_and c.from_residual-in_err-stored.result c.from_residual-in_err-stored.ensures.1 in
     let meets = meets_top exact c.args.self.now env c.in_ok-e.e h (c.in_ok-e.ensures.resolved env h) in
     rw (p.1, p.2)
-    (λ e. subst (λ v. c.args.room < weight v) (c.in_ok-e.ensures.value env env h (agree_base env)) (c.in_err-stored.ensures.heavy env env meets e))
+    (λ e. subst (λ n. n < weight (value_of (shape c.args.e.now) env)) c.of.ensures
+    (subst (λ v. c.of.result < weight v) (c.in_ok-e.ensures.value env env h (agree_base env)) (c.in_err-stored.ensures.heavy env env meets e)))
 
 pub returns-clause-stands : goal.returns-clause-stands
 returns-clause-stands c = λ env h.

@@ -28,4 +28,5 @@ returns-in_err-weight-clause-heavy c = λ env h.
     let p = err_from_is_err_and c.from_residual-in_err-weight.result c.from_residual-in_err-weight.ensures.1 in
     let meets = meets_top exact c.args.self.now env c.in_ok-e.e h (c.in_ok-e.ensures.resolved env h) in
     rw (p.1, p.2)
-    (λ e. subst (λ v. c.args.room < weight v) (c.in_ok-e.ensures.value env env h (agree_base env)) (c.in_err-weight.ensures.heavy exact env env meets e))
+    (λ e. subst (λ n. n < weight (value_of (shape c.args.e.now) env)) c.of.ensures
+    (subst (λ v. c.of.result < weight v) (c.in_ok-e.ensures.value env env h (agree_base env)) (c.in_err-weight.ensures.heavy exact env env meets e)))
