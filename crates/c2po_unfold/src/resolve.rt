@@ -365,7 +365,8 @@ impl Unfolding {
         ensures value { (env : Env) → IfOk result (λ r. resolved_value r env
             ≡ picked (λ y. fields_in (env y)) field.now (resolved_value whole env)) }
     {
-        let hint = self.hint(around, &whole, field);
+        let owner = self.probable_struct(around, &whole);
+        let hint = self.hint(around, owner, field);
         let whole = Box::new(maker.alloc, whole)?;
         Ok(Resolved::Part(whole, field.copy(), hint))
     }
@@ -407,7 +408,11 @@ impl Unfolding {
         ensures value { (env : Env) → IfOk result (λ r. resolved_value r env
             ≡ picked (λ y. fields_in (env y)) field.now (resolved_value whole.value env)) }
     {
-        let hint = self.hint(around, &whole, field);
+        let owner = match rows.get(0) {
+            Some(row) => self.owner(row.found).map(Name::copy),
+            None => self.probable_struct(around, &whole),
+        };
+        let hint = self.hint(around, owner, field);
         let rows = self.pick_rows(maker, around, rows, field, &hint)?;
         let part = Resolved::Part(whole, field.copy(), hint);
         if rows.is_empty() {
@@ -566,12 +571,12 @@ impl Unfolding {
         }
     }
 
-    /// Where a field of an expression probably is.
-    fn hint(&self, around: &Around<'_>, whole: &Resolved, field: &Name) -> Hint
+    /// Where a field is in a struct, if its name is known.
+    fn hint(&self, around: &Around<'_>, owner: Option<Name>, field: &Name) -> Hint
         ensures { (base : Env) → StandsFor self.now base
             → IsPlace base (names_around around.now) field.now result }
     {
-        let Some(owner) = self.probable_struct(around, whole) else {
+        let Some(owner) = owner else {
             return Hint::Unknown;
         };
         match self.place_around(around, &owner, field) {
