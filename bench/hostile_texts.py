@@ -124,11 +124,11 @@ def different_picks(definitions):
     return '%s%sw := {%s};\n%sFTSPEC p;\n' % (DEEP, structs, members(60, 'e#'), users)
 
 
-def turned(depth):
-    """Structs within one another, and a set of 160 of some depth, which hold one thing and another in turn."""
+def turned(count, depth):
+    """Structs within one another, and a set of so many of some depth, which hold one thing and another in turn."""
     other = 'c0 := t0(!p);\n' + ''.join('c%d := t%d(c%d);\n' % (k + 1, k + 1, k) for k in range(DEEPEST))
-    structs = ''.join('e%d := t%d(%s%d);\n' % (k, depth, 'dc'[k % 2], depth - 1) for k in range(160))
-    return '%s%s%sw := {%s};\n' % (DEEP, other, structs, members(160, 'e#'))
+    structs = ''.join('e%d := t%d(%s%d);\n' % (k, depth, 'dc'[k % 2], depth - 1) for k in range(count))
+    return '%s%s%sw := {%s};\n' % (DEEP, other, structs, members(count, 'e#'))
 
 
 def passed(number):
@@ -178,9 +178,9 @@ TEXTS = [
     filled('number-picks', 'chains of picked fields in bodies over pairs of numbers', DEEP,
            numbered('DEFINE a#:=foreach(n:s)(foreach(v:u)(n>0||v%s));\n' % ('.f' * (DEEPEST + 1))), 'FTSPEC p;\n'),
     Text('different-picks', 'the same over different structs, 8 definitions in 28 KB', lambda: different_picks(8)),
-    filled('turned-picks', 'such chains over pairs of structs of two kinds in turn', turned(DEEPEST),
+    filled('turned-picks', 'such chains over pairs of structs of two kinds in turn', turned(160, DEEPEST),
            numbered('a#:=foreach(v:w)(foreach(z:w)(z%s));\n' % ('.f' * (DEEPEST + 1))), 'FTSPEC p;\n'),
-    filled('both-picks', 'such chains from both variables', turned(230),
+    filled('both-picks', 'such chains from both variables', turned(112, 230),
            numbered('a#:=foreach(v:w)(foreach(z:w)(v%s||z%s));\n' % (('.f' * 231,) * 2)), 'FTSPEC p;\n'),
     filled('passed-picks', 'quantifiers over one struct each, within one over pairs of members of two kinds',
            MIXED + 'STRUCT t: { a: bool; };\nDEFINE\n', passed, 'FTSPEC p;\n'),
