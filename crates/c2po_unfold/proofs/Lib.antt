@@ -15,5 +15,6 @@ pub mod Picking
 pub mod Placing
 pub mod Quantifying
 pub mod Rows
+pub mod Several
 pub mod ValueWalk
 pub mod Within

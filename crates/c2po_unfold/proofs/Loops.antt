@@ -1,6 +1,6 @@
 -- What the loops of unfolding keep.
 
-use Rattle.std.proofs.Common.{◌≡◌, ℕ, false, ◌+◌, ◌-◌, ◌<◌, ◌≤◌, Option, Some, None, List, [], ◌∷◌, ◌++◌, map, take, length, get_or, slice_get, sum_by, option_map, refl, sym, subst, ap, ◌∙◌, arith}
+use Rattle.std.proofs.Common.{◌≡◌, ℕ, false, ◌+◌, ◌-◌, ◌<◌, ◌≤◌, Option, Some, None, List, [], ◌∷◌, ◌++◌, map, take, length, get_or, slice_get, sum_by, option_map, inl, inr, refl, sym, subst, ap, ◌∙◌, arith}
 use Rattle.std.proofs.lemmas.List.{take_more, take-map, map-append, length-map, length-take-le}
 use Rattle.std.proofs.lemmas.List.Sums.{fold_push, sum_by_push, sum_by-cons, sum_by_more_le}
 use Rattle.std.proofs.lemmas.Option.{slice_get_within, get_or_from_slice_get, slice_get-get_or, slice_get-map}
@@ -28,9 +28,13 @@ use Rattle.c2po_unfold.specs.Resolving.{AllResolved, IsResolved, resolved_body, 
 use Rattle.c2po_unfold.specs.Scopes.{Fits, Meets, names_of}
 use Rattle.c2po_unfold.specs.declared.summary.Summary.{Summary}
 use Rattle.c2po_unfold.specs.Summaries.{IsSummary, gathered}
-use Rattle.c2po_unfold.specs.declared.summing.BodyFact.{BodyFact}
-use Rattle.c2po_unfold.specs.Bodies.{IsOfBody, MeetsAll, MeetsBody}
+use Rattle.c2po_unfold.specs.declared.known.BodyFact.{BodyFact}
+use Rattle.c2po_unfold.specs.declared.known.Known.{Known}
+use Rattle.c2po_unfold.specs.declared.known.Ahead.{Ahead}
+use Rattle.c2po_unfold.specs.Ahead.{AreKnown, IsAhead, known_at}
+use Rattle.c2po_unfold.specs.Bodies.{AreOfBody, IsOfBody, MeetsAll, MeetsBody}
 use Rattle.c2po_unfold.proofs.Later.{later_same, later_then, hold_all_later, fits_later, resolved_later}
+use Rattle.c2po_nodes.proofs.Places.{at_push}
 use Rattle.c2po_unfold.proofs.Members.{holds_weight, list_values, resolved_at, value_at}
 
 -- the first elements and one more
@@ -199,16 +203,16 @@ meets_within m u base scope within env q v names fits resolved = record {
 }
 
 -- the bodies of a quantifier that are joined so far
-pub record JoinedSoFar (u : Unfolding) (scope : Scope) (set : Head) (q : Quantified) (op : LogicOp) (room i : ℕ) (all : Summary) (last : BodyFact) : Type 0 where
+pub record JoinedSoFar (u : Unfolding) (scope : Scope) (set : Head) (q : Quantified) (op : LogicOp) (room i : ℕ) (all : Summary) (known : Known) : Type 0 where
   pub light : all.weight ≤ room
-  pub known : IsOfBody u scope q last
+  pub are : AreKnown u scope q set known
   pub holds : (m : Mode) (base env : Env) (s : Value) → MeetsBody m u base scope env q → Heads m u base set s →
       IsSummary m all (connected_all op (take i (resolved_bodies q env s)))
 
 -- what is known of the bodies of a quantifier so far, together
-pub record GatheredSoFar (u : Unfolding) (scope : Scope) (set : Head) (q : Quantified) (room i : ℕ) (fact : Fact) (left : ℕ) (last : BodyFact) : Type 0 where
+pub record GatheredSoFar (u : Unfolding) (scope : Scope) (set : Head) (q : Quantified) (room i : ℕ) (fact : Fact) (left : ℕ) (known : Known) : Type 0 where
   pub inside : left ≤ room
-  pub known : IsOfBody u scope q last
+  pub are : AreKnown u scope q set known
   pub tells : (m : Mode) (base env : Env) (s : Value) → MeetsBody m u base scope env q → Heads m u base set s →
       Says m fact (Some (formula (gathered (map formula_of (take i (resolved_bodies q env s))))))
   pub weight : (m : Mode) (base env : Env) (s : Value) → MeetsBody m u base scope env q → Heads m u base set s →
@@ -274,17 +278,17 @@ gathered_next vs i v h =
     ∙ gathered_push (map formula_of (take i vs)) (formula_of v))
 
 -- one more body, before the others
-pub gathered_more : (u : Unfolding) (scope : Scope) (set : Head) (q : Quantified) (room i : ℕ) (fact new : Fact) (left : ℕ) (last next : BodyFact) →
-    GatheredSoFar u scope set q room i fact left last → next.summary.weight ≤ left →
+pub gathered_more : (u : Unfolding) (scope : Scope) (set : Head) (q : Quantified) (room i : ℕ) (fact new : Fact) (left : ℕ) (known then : Known) (next : Summary) →
+    GatheredSoFar u scope set q room i fact left known → next.weight ≤ left →
     ((m : Mode) (base : Env) (s : Value) → Heads m u base set s → i < length (members s)) →
     ((m : Mode) (base env : Env) (s v : Value) → MeetsBody m u base scope env q → Heads m u base set s → slice_get (members s) i ≡ Some v →
-    IsSummary m next.summary (resolved_body q env v)) →
-    IsOfBody u scope q next →
-    ((m : Mode) (o p : Option Tree) → Says m next.summary.fact o → Says m fact p → Says m new (Some (formula (disjunction (formula_in o) (formula_in p))))) →
-    GatheredSoFar u scope set q room (i + 1) new (left - next.summary.weight) next
-gathered_more u scope set q room i fact new left last next g light inside holds known joins = record {
+    IsSummary m next (resolved_body q env v)) →
+    AreKnown u scope q set then →
+    ((m : Mode) (o p : Option Tree) → Says m next.fact o → Says m fact p → Says m new (Some (formula (disjunction (formula_in o) (formula_in p))))) →
+    GatheredSoFar u scope set q room (i + 1) new (left - next.weight) then
+gathered_more u scope set q room i fact new left known then next g light inside holds are joins = record {
   inside = omega (arith, g.inside);
-  known = known;
+  are = are;
   tells = λ m base env s h heads.
       let v = get_or (members s) i (truth_value false) in
       let at : slice_get (members s) i ≡ Some v = member_at (members s) i (length (members s)) refl (inside m base s heads) in
@@ -322,5 +326,31 @@ counted_tells g op n m vs f some count h =
     subst (λ p. Says g f (Some (formula p))) (ap (λ k. counted_formula (map formula_of vs) (counting op k m)) count ∙ sym (counted_means op m vs some)) h
 
 -- nothing is known of a body where its variable is no stored value
-pub not_known : (u : Unfolding) (scope : Scope) (q : Quantified) (known : BodyFact) → known.member ≡ None → known.cover ≡ None → IsOfBody u scope q known
+not_known : (u : Unfolding) (scope : Scope) (q : Quantified) (known : BodyFact) → known.member ≡ None → known.cover ≡ None → IsOfBody u scope q known
 not_known u scope q known nothing bare = record { holds = λ m base env s v some. cc; covers = λ m base env s v some. cc }
+
+-- nothing is known of any body yet
+pub nothing_known : (u : Unfolding) (scope : Scope) (q : Quantified) (set : Head) (known : Known) → known.last.member ≡ None → known.last.cover ≡ None →
+    known.ahead.count ≡ 0 → known.kinds.items ≡ [] → AreKnown u scope q set known
+nothing_known u scope q set known nothing bare empty bodies = record {
+  last = not_known u scope q known.last nothing bare;
+  ahead = record { holds = λ m base env s v j k h heads inside. absurd (omega (arith, inside, empty)) };
+  kinds = subst (AreOfBody u scope q) (sym bodies) (record { each = λ i k at. cc });
+}
+
+-- what is known of a body in one more case
+pub one_more_kind : (u : Unfolding) (scope : Scope) (q : Quantified) (old new : List BodyFact) (k : BodyFact) → AreOfBody u scope q old → IsOfBody u scope q k →
+    new ≡ old ++ k ∷ [] → AreOfBody u scope q new
+one_more_kind u scope q old new k are is longer = subst (AreOfBody u scope q) (sym longer) (record {
+  each = λ i r at. elim (at_push old k i r at) [
+    | inl earlier ↦ are.each i r earlier.1
+    | inr last ↦ subst (IsOfBody u scope q) last.1 is
+  ];
+})
+
+-- what is known of a body that was checked together with others
+pub ahead_known : (m : Mode) (u : Unfolding) (base : Env) (scope : Scope) (env : Env) (q : Quantified) (set : Head) (ahead : Ahead) (s v : Value) (i : ℕ) (k : Summary) →
+    IsAhead u scope q set ahead → (j : ℕ) × (i ≡ ahead.start + j) × (j < ahead.count) × (known_at ahead.each j ≡ Some k) →
+    MeetsBody m u base scope env q → Heads m u base set s → slice_get (members s) i ≡ Some v → IsSummary m k (resolved_body q env v)
+ahead_known m u base scope env q set ahead s v i k all found h heads at =
+    all.holds m base env s v found.0 k h heads found.2 found.3 (subst (λ n. slice_get (members s) n ≡ Some v) found.1 at)

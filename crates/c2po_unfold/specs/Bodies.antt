@@ -1,10 +1,10 @@
 -- What is known of bodies of quantifiers.
 
-use Rattle.std.specs.Prelude.{◌≡◌, Some, ◌∷◌}
+use Rattle.std.specs.Prelude.{ℕ, ◌≡◌, Some, List, ◌∷◌, slice_get}
 use Rattle.c2po_unfold.specs.declared.values.Stored.{Stored}
 use Rattle.c2po_unfold.specs.declared.resolved.Quantified.{Quantified}
 use Rattle.c2po_unfold.specs.declared.scope.Scope.{Scope}
-use Rattle.c2po_unfold.specs.declared.summing.BodyFact.{BodyFact}
+use Rattle.c2po_unfold.specs.declared.known.BodyFact.{BodyFact}
 use Rattle.c2po_unfold.specs.declared.unfolding.Unfolding.{Unfolding}
 use Rattle.c2po_unfold.specs.Values.{Value}
 use Rattle.c2po_unfold.specs.Environment.{Env}
@@ -32,3 +32,7 @@ pub record IsOfBody (u : Unfolding) (scope : Scope) (q : Quantified) (known : Bo
       → MeetsBody m u base scope env q → Holds u s v → IsSummary m known.summary (resolved_body q env v)
   pub covers : (m : Mode) (base env : Env) (s : Summary) (v : Value) → known.cover ≡ Some s
       → MeetsBody m u base scope env q → IsOfLeaf covering s v → IsSummary m known.summary (resolved_body q env v)
+
+-- what is known of a quantifier's body in each of several cases is so
+pub record AreOfBody (u : Unfolding) (scope : Scope) (q : Quantified) (known : List BodyFact) : Type 0 where
+  pub each : (i : ℕ) (k : BodyFact) → slice_get known i ≡ Some k → IsOfBody u scope q k

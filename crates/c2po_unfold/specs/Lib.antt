@@ -13,6 +13,7 @@ pub mod Covering
 pub mod Faults
 pub mod Parts
 pub mod Bodies
+pub mod Ahead
 pub mod Fields
 pub use Rattle.count_sets.specs.Counting
 pub use Rattle.mltl_base.specs.Tables

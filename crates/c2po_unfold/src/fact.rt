@@ -30,6 +30,7 @@ impl Tenses {
     };
 
     /// Those of either of two formulas.
+    #[inline(always)]
     fn or(self, other: Tenses) -> Tenses
         ensures past { result.past ≡ (self.past || other.past) }
         ensures future { result.future ≡ (self.future || other.future) }
@@ -41,6 +42,7 @@ impl Tenses {
     }
 
     /// The same, with an operator of the past.
+    #[inline(always)]
     fn and_past(self) -> Tenses
         ensures past { result.past ≡ true }
         ensures future { result.future ≡ self.future }
@@ -52,6 +54,7 @@ impl Tenses {
     }
 
     /// The same, with an operator of the future.
+    #[inline(always)]
     fn and_future(self) -> Tenses
         ensures past { result.past ≡ self.past }
         ensures future { result.future ≡ true }
@@ -77,6 +80,7 @@ pub enum Fact {
 }
 
 /// Returns the range of an operand; any range where it isn't an integer.
+#[inline(always)]
 fn range_of(fact: &Fact) -> Result<Range, NoRange>
     ensures { told_range result ≡ range_in (fact_view fact.now) }
 {
@@ -88,6 +92,7 @@ fn range_of(fact: &Fact) -> Result<Range, NoRange>
 }
 
 /// Returns the first fault of an operand; none where it isn't a formula.
+#[inline(always)]
 pub fn fault_of(fact: &Fact) -> Option<NoRange>
     ensures { told_fault result ≡ fault_in (fact_view fact.now) }
 {
@@ -98,6 +103,7 @@ pub fn fault_of(fact: &Fact) -> Option<NoRange>
 }
 
 /// Returns the tenses of an operand; none where it isn't a formula.
+#[inline(always)]
 pub fn tenses_of(fact: &Fact) -> Tenses
     ensures past { result.past ≡ past_in (fact_view fact.now) }
     ensures future { result.future ≡ future_in (fact_view fact.now) }
@@ -109,6 +115,7 @@ pub fn tenses_of(fact: &Fact) -> Tenses
 }
 
 /// Whether the range of an operand is its own, and not one that it is within.
+#[inline(always)]
 fn is_exact(fact: &Fact) -> bool
     ensures { result ≡ exact_in (fact_view fact.now) }
 {
@@ -119,6 +126,7 @@ fn is_exact(fact: &Fact) -> bool
 }
 
 /// Whether the ranges of both operands are their own.
+#[inline(always)]
 fn both_exact(a: &Fact, b: &Fact) -> bool
     ensures { result ≡ (exact_in (fact_view a.now) && exact_in (fact_view b.now)) }
 {
@@ -126,6 +134,7 @@ fn both_exact(a: &Fact, b: &Fact) -> bool
 }
 
 /// What is known of an integer with this range, or with one within it.
+#[inline(always)]
 fn integer_fact(exact: bool, range: Result<Range, NoRange>) -> Fact
     ensures { fact_view result ≡ Some (integer_view exact (told_range range)) }
 {
@@ -137,6 +146,7 @@ fn integer_fact(exact: bool, range: Result<Range, NoRange>) -> Fact
 }
 
 /// The range of a negation, where its operand has one.
+#[inline(always)]
 fn negated_range(a: Result<Range, NoRange>) -> Result<Range, NoRange>
     ensures { told_range result ≡ over negated (told_range a) }
 {
@@ -144,6 +154,7 @@ fn negated_range(a: Result<Range, NoRange>) -> Result<Range, NoRange>
 }
 
 /// Returns the range of two integers under an operator, where they have one: the left one first.
+#[inline(always)]
 fn computed_range(
     op: ArithOp,
     a: Result<Range, NoRange>,
@@ -164,6 +175,7 @@ fn computed_range(
 
 /// The range to take for the left operand of an operation where its own is only known to be within it: that of a
 /// remainder isn't always within the one that a greater range gives, so that of any sign is taken.
+#[inline(always)]
 fn widened_range(op: ArithOp, a: Result<Range, NoRange>) -> Result<Range, NoRange>
     ensures { told_range result ≡ widened op (told_range a) }
 {
@@ -177,6 +189,7 @@ fn widened_range(op: ArithOp, a: Result<Range, NoRange>) -> Result<Range, NoRang
 }
 
 /// The range of two integers under an operator, by theirs or by those that they are within.
+#[inline(always)]
 fn reached_range(
     exact: bool,
     op: ArithOp,
@@ -194,6 +207,7 @@ fn reached_range(
 }
 
 /// Why there is no range.
+#[inline(always)]
 fn why_none_of(range: Result<Range, NoRange>) -> Option<NoRange>
     ensures { told_fault result ≡ why_none (told_range range) }
 {
@@ -201,6 +215,7 @@ fn why_none_of(range: Result<Range, NoRange>) -> Option<NoRange>
 }
 
 /// The first of two faults, the left one first.
+#[inline(always)]
 pub fn first_fault(left: Option<NoRange>, right: Option<NoRange>) -> Option<NoRange>
     ensures { told_fault result ≡ or_later (told_fault left) (told_fault right) }
 {
@@ -208,6 +223,7 @@ pub fn first_fault(left: Option<NoRange>, right: Option<NoRange>) -> Option<NoRa
 }
 
 /// Whether a range is within another one.
+#[inline(always)]
 fn is_within(inner: Range, outer: Range) -> bool
     ensures least { result ≡ true → outer.least ≤ℤ inner.least }
     ensures greatest { result ≡ true → inner.greatest ≤ℤ outer.greatest }
@@ -227,6 +243,7 @@ fn spanning(a: Range, b: Range) -> Option<Range> {
 
 impl Fact {
     /// Whether this is the same fact, of a formula without a fault.
+    #[inline(always)]
     pub(crate) fn is(&self, other: &Fact) -> bool
         ensures { result ≡ true → self.now ≡ other.now }
     {
@@ -287,8 +304,10 @@ impl Fact {
     }
 
     /// Returns a fact that covers two, if there is one. Whether it does is for the caller to see.
+    #[inline(always)]
     pub(crate) fn widest(&self, other: &Fact) -> Option<Fact> {
         match (self, other) {
+            (Fact::Within(a), Fact::Number(b)) if is_within(*b, *a) => Some(*self),
             (Fact::Number(a) | Fact::Within(a), Fact::Number(b) | Fact::Within(b)) => {
                 Some(Fact::Within(spanning(*a, *b)?))
             }
@@ -297,6 +316,7 @@ impl Fact {
     }
 
     /// Whether this is of a formula without a fault, of which nothing else can be known.
+    #[inline(always)]
     pub(crate) fn is_certain(&self) -> bool
         ensures { (m : Mode) (o : Maybe Tree) → result ≡ true → Says covering self.now o
             → Says m self.now o }
@@ -305,6 +325,7 @@ impl Fact {
     }
 
     /// Returns what is known of an operand as a formula.
+    #[inline(always)]
     pub fn formula(a: &Fact) -> Fact
         ensures { (m : Mode) (o : Maybe Tree) → Says m a.now o
             → Says m result (Some (formula (formula_in o))) }
@@ -315,6 +336,7 @@ impl Fact {
     }
 
     /// Returns what is known of a negation.
+    #[inline(always)]
     pub fn negation(a: &Fact) -> Fact
         ensures { (m : Mode) (o : Maybe Tree) → Says m a.now o
             → Says m result (Some (formula (negation (formula_in o)))) }
@@ -334,6 +356,7 @@ impl Fact {
     }
 
     /// Returns what is known of an operation on two integers.
+    #[inline(always)]
     pub fn computed(op: ArithOp, a: &Fact, b: &Fact) -> Fact
         ensures { (m : Mode) (o q : Maybe Tree) → Says m a.now o → Says m b.now q
             → Says m result (Some (number (arithmetic op (term_in o) (term_in q)))) }
@@ -346,6 +369,7 @@ impl Fact {
     }
 
     /// Returns what is known of a comparison of two integers.
+    #[inline(always)]
     pub fn compared(a: &Fact, b: &Fact) -> Fact
         ensures { (m : Mode) (op : Comparison) (o q : Maybe Tree) → Says m a.now o → Says m b.now q
             → Says m result (Some (formula (atom (comparison op (term_in o) (term_in q))))) }
@@ -357,6 +381,7 @@ impl Fact {
     }
 
     /// Returns what is known of two formulas under a connective.
+    #[inline(always)]
     pub fn joined(a: &Fact, b: &Fact) -> Fact
         ensures { (m : Mode) (op : Connective) (o q : Maybe Tree) → Says m a.now o → Says m b.now q
             → Says m result (Some (formula (connected op (formula_in o) (formula_in q)))) }
@@ -367,6 +392,7 @@ impl Fact {
     }
 
     /// Returns what is known of a formula under a temporal operator.
+    #[inline(always)]
     pub fn windowed(op: WindowOp, a: &Fact) -> Fact
         ensures { (m : Mode) (i : Interval) (o : Maybe Tree) → Says m a.now o
             → Says m result (Some (formula (windowed op i (formula_in o)))) }
@@ -380,6 +406,7 @@ impl Fact {
     }
 
     /// Returns what is known of two formulas under a temporal operator.
+    #[inline(always)]
     pub fn between(op: BetweenOp, a: &Fact, b: &Fact) -> Fact
         ensures { (m : Mode) (i : Interval) (o q : Maybe Tree) → Says m a.now o → Says m b.now q
             → Says m result (Some (formula (ranged op i (formula_in o) (formula_in q)))) }

@@ -31,6 +31,7 @@ impl From<AllocError> for UnfoldFault {
 }
 
 /// The number of levels that may be nested within one more level. The program's stack ends long before this number.
+#[inline(always)]
 pub(crate) fn deeper(levels: u32) -> Result<u32, UnfoldFault>
     ensures left { IfOk result (λ left. left + 1 ≡ levels) }
     ensures none { IfErr result (λ why. why ≡ Memory) }

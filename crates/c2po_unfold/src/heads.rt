@@ -52,7 +52,7 @@ impl<'a> Scope<'a> {
     }
 
     /// What a column has for a variable's value, where that is one of its members.
-    fn found(&'a self, name: &Name, rows: &[Row]) -> Option<Stored>
+    pub(crate) fn found(&'a self, name: &Name, rows: &[Row]) -> Option<Stored>
         ensures { (m : Mode) (u : Unfolding) (base env : Env) → Fits m u base self.now env
             → IsBound (names_of self.now) name.now → IfSome result (λ t. (r : Line) × (i : ℕ)
             × (slice_get rows.now i ≡ Some r)
@@ -242,6 +242,7 @@ impl Unfolding {
     }
 
     /// The number of members of a set; nothing else has any.
+    #[inline(always)]
     pub(crate) fn member_count(&self, set: &Head<'_>) -> usize
         ensures { (m : Mode) (base : Env) (v : Value) → Heads m self.now base set.now v
             → result ≡ length (members v) }
@@ -254,6 +255,7 @@ impl Unfolding {
     }
 
     /// The members of a stored set; nothing else has any.
+    #[inline(always)]
     pub(crate) fn held_members(&self, stored: Stored) -> &[Stored]
         ensures { (v : Value) → Holds self.now stored v → HoldMembers self.now result.now v }
     {
@@ -270,6 +272,7 @@ impl Unfolding {
     }
 
     /// What member `i` of a set leads to.
+    #[inline(always)]
     pub(crate) fn member<'a>(
         &self,
         levels: u32,

@@ -7,10 +7,12 @@
 #![tactic(auto)]
 
 pub mod counting;
+mod each;
 pub mod fact;
 pub mod fault;
 pub mod fields;
 pub mod heads;
+mod known;
 pub mod laws;
 pub mod meanings;
 pub mod operators;

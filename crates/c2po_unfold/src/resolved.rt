@@ -61,6 +61,7 @@ pub struct Quantified<'a> {
 
 impl Resolved {
     /// Whether this is a number, a Boolean, an operator or a quantifier.
+    #[inline(always)]
     pub(crate) fn is_operation(&self) -> bool
         ensures { result ≡ is_operation self.now }
     {

@@ -1,6 +1,6 @@
 //! The weight that is left for a value.
 
-ghost use Rattle.std.specs.Prelude.{◌≡◌, ◌+◌, ◌<◌, ◌≤◌, IfOk, IfErr};
+ghost use Rattle.std.specs.Prelude.{◌≡◌, ◌+◌, ◌<◌, ◌≤◌, true, IfOk, IfErr};
 ghost use Rattle.mltl_base.specs.declared.limits.TheConstants.{MAX_WEIGHT};
 
 use crate::UnfoldFault;
@@ -35,6 +35,7 @@ impl Room {
     }
 
     /// Returns the weight that is left.
+    #[inline(always)]
     pub(crate) fn get(self) -> u32
         ensures number { result ≡ self }
         ensures limit { result ≤ MAX_WEIGHT }
@@ -43,6 +44,7 @@ impl Room {
     }
 
     /// Returns the room that a weight leaves, and `Heavy` where the weight is above the room.
+    #[inline(always)]
     pub(crate) fn less(self, weight: u32) -> Result<Room, UnfoldFault>
         ensures left { IfOk result (λ left. left + weight ≡ self) }
         ensures heavy { IfErr result (λ why. self < weight) }
@@ -53,7 +55,16 @@ impl Room {
         }
     }
 
+    /// Whether an operator over operands of these weights is within the room.
+    #[inline(always)]
+    pub(crate) fn holds(self, a: u32, b: u32) -> bool
+        ensures { result ≡ true → a + b + 1 ≤ self }
+    {
+        u64::from(a) + u64::from(b) < u64::from(self.left)
+    }
+
     /// Returns the room that is left after a weight that fits.
+    #[inline(always)]
     pub(crate) fn without(self, weight: u32) -> Room
         requires { weight ≤ self }
         ensures { result + weight ≡ self }

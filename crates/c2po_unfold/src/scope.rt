@@ -78,6 +78,7 @@ pub enum Head<'a> {
 impl<'a> Scope<'a> {
     /// The scope in which a variable is a value, by what that leads to: this is found once, however often the variable
     /// is used.
+    #[inline(always)]
     pub(crate) fn bound(
         name: &'a Name,
         head: Head<'a>,

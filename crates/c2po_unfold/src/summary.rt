@@ -27,6 +27,7 @@ pub struct Summary {
 
 impl Summary {
     /// Returns what is known of a number or of a Boolean, which weighs one.
+    #[inline(always)]
     pub(crate) fn token(fact: Fact, room: Room) -> Result<Summary, UnfoldFault>
         ensures light { IfOk result (λ s. s.weight ≤ room) }
         ensures holds { (m : Mode) (l : Leaf) → leaf_weight l ≡ 1
@@ -49,6 +50,7 @@ impl Summary {
     }
 
     /// Returns what is known of a value as the only body of a quantifier, which is a formula.
+    #[inline(always)]
     pub(crate) fn as_formula(&self) -> Summary
         ensures weight { result.weight ≡ self.now.weight }
         ensures holds { (m : Mode) (op : LogicOp) (v : Value) → IsSummary m self.now v
@@ -70,7 +72,11 @@ impl Summary {
     }
 
     /// Returns what covers both, if there is such. Whether it does is for the caller to see.
+    #[inline(always)]
     pub(crate) fn widest(&self, other: &Summary) -> Option<Summary> {
+        if self.weight != other.weight {
+            return None;
+        }
         let fact = self.fact.widest(&other.fact)?;
         Some(Summary {
             weight: self.weight,
@@ -79,6 +85,7 @@ impl Summary {
     }
 
     /// Whether this is of a formula without a fault, of which nothing else can be known.
+    #[inline(always)]
     pub(crate) fn is_certain(&self) -> bool
         ensures { (m : Mode) (v : Value) → result ≡ true → IsSummary covering self.now v
             → IsSummary m self.now v }
@@ -87,6 +94,7 @@ impl Summary {
     }
 
     /// Returns what is known of an operator over one operand.
+    #[inline(always)]
     pub(crate) fn over_one(op: UnaryOp, a: &Summary) -> Summary
         requires { a.now.weight + 1 < 2 ^ 32 }
         ensures weight { result.weight ≡ a.now.weight + 1 }
@@ -101,6 +109,7 @@ impl Summary {
     }
 
     /// Returns what is known of an operator over two operands.
+    #[inline(always)]
     pub(crate) fn over_two(op: BinaryOp, a: &Summary, b: &Summary) -> Summary
         requires { a.now.weight + b.now.weight + 1 < 2 ^ 32 }
         ensures weight { result.weight ≡ a.now.weight + b.now.weight + 1 }
@@ -116,6 +125,7 @@ impl Summary {
 }
 
 /// What is known of an operator over one operand.
+#[inline(always)]
 fn unary_fact(op: UnaryOp, a: &Fact) -> Fact
     ensures { (m : Mode) (v : Value) → Says m a.now (tree_in v)
         → Says m result (tree_in (unary_value op v)) }
@@ -128,6 +138,7 @@ fn unary_fact(op: UnaryOp, a: &Fact) -> Fact
 }
 
 /// What is known of an operator over two operands.
+#[inline(always)]
 fn binary_fact(op: BinaryOp, a: &Fact, b: &Fact) -> Fact
     ensures { (m : Mode) (v w : Value) → Says m a.now (tree_in v) → Says m b.now (tree_in w)
         → Says m result (tree_in (binary_value op v w)) }

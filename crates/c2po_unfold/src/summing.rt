@@ -1,14 +1,14 @@
 //! What is known of expressions, without their nodes.
 
-ghost use Rattle.std.specs.Prelude.{◌≡◌, ◌+◌, ◌<◌, ◌≤◌, true, length, map, sum_by, slice_get, Some, None, IfOk, IfErr, IfSome};
+ghost use Rattle.std.specs.Prelude.{◌≡◌, ◌+◌, ◌<◌, ◌≤◌, true, length, map, sum_by, slice_get, Some, IfOk, IfErr, IfSome, OnOk};
 ghost use Rattle.c2po_unfold.specs.Facts.{Tells};
 ghost use Rattle.c2po_nodes.specs.Nodes.{formula};
 ghost use Rattle.c2po_unfold.specs.declared.fault.UnfoldFault.TheVariants.{Heavy};
 ghost use Rattle.c2po_unfold.specs.declared.fact.Fact.TheVariants.{Parts};
-ghost use Rattle.c2po_unfold.specs.declared.scope.Head.TheVariants.{Held};
 ghost use Rattle.c2po_unfold.specs.declared.scope.Scope.{Scope as Variables};
 ghost use Rattle.c2po_unfold.specs.declared.resolved.Quantified.{Quantified as Operands};
-ghost use Rattle.c2po_unfold.specs.Bodies.{IsOfBody, MeetsAll, MeetsBody};
+ghost use Rattle.c2po_unfold.specs.Ahead.{AreKnown};
+ghost use Rattle.c2po_unfold.specs.Bodies.{AreOfBody, IsOfBody, MeetsAll, MeetsBody};
 ghost use Rattle.c2po_unfold.specs.Covering.{Mode, Says, covering};
 ghost use Rattle.c2po_unfold.specs.Environment.{Env};
 ghost use Rattle.c2po_unfold.specs.Heads.{Heads};
@@ -23,6 +23,7 @@ ghost use Rattle.c2po_unfold.specs.Weights.{parts_weight, weight};
 use crate::counting::{counted_fact, gates_weight};
 use crate::fact::Fact;
 use crate::fault::deeper;
+use crate::known::{BodyFact, Known, held_in, kind_in};
 use crate::operators::{BinaryOp, UnaryOp};
 use crate::resolved::{Quantified, Resolved};
 use crate::room::Room;
@@ -41,29 +42,13 @@ pub(crate) struct Gathered {
     left: Room,
 }
 
-/// The stored value that a member leads to, if it does.
-fn held_in(head: &Head<'_>) -> Option<Stored>
-    ensures { (s : Stored) → result ≡ Some s → head.now ≡ Held s }
-{
-    match head {
-        Head::Held(stored) => Some(*stored),
-        _ => None,
-    }
-}
-
 /// The number of members from which on a body is tried with what covers them all. Where that fails, one body was checked
 /// in vain. At most five such quantifiers can stand within one another, for their weight, so that is less than as much
 /// again.
 const WORTH_TRYING: usize = 8;
 
-/// What is known of the body of a quantifier where its variable is a stored value, if it is, or anything that a summary
-/// covers.
-#[derive(Clone, Copy)]
-pub(crate) struct BodyFact {
-    member: Option<Stored>,
-    cover: Option<Summary>,
-    summary: Summary,
-}
+/// The number of kinds of members for which what is known of a body is kept.
+const KINDS: usize = 64;
 
 /// What is known of a number in the text, if it is one.
 fn number_summary(e: &Resolved) -> Option<Summary>
@@ -79,33 +64,9 @@ fn number_summary(e: &Resolved) -> Option<Summary>
     }
 }
 
-impl BodyFact {
-    /// Nothing is known of any value.
-    fn none() -> BodyFact
-        ensures member { result.member ≡ None }
-        ensures cover { result.cover ≡ None }
-    {
-        BodyFact {
-            member: None,
-            cover: None,
-            summary: Summary::none(),
-        }
-    }
-
-    /// Whether it is about what a member leads to.
-    fn is_of(&self, head: &Head<'_>) -> bool
-        ensures { result ≡ true
-            → (s : Stored) × (self.now.member ≡ Some s) × (head.now ≡ Held s) }
-    {
-        match (self.member, head) {
-            (Some(member), Head::Held(stored)) => member.is(*stored),
-            _ => false,
-        }
-    }
-}
-
 impl Unfolding {
     /// What is known of the integer or the formula of a stored value.
+    #[inline(always)]
     fn held_fact(&self, stored: Stored) -> Fact
         ensures { (v : Value) → Holds self.now stored v → Tells result (tree_in v) }
     {
@@ -119,7 +80,8 @@ impl Unfolding {
     }
 
     /// What is known of a stored value.
-    fn held(&self, stored: Stored) -> Summary
+    #[inline(always)]
+    pub(crate) fn held(&self, stored: Stored) -> Summary
         ensures weight { result.weight ≡ stored.weight }
         ensures holds { (m : Mode) (v : Value) → Holds self.now stored v → IsSummary m result v }
     {
@@ -131,6 +93,7 @@ impl Unfolding {
     }
 
     /// What is known of a stored value, if it is an integer or a formula.
+    #[inline(always)]
     fn held_leaf(&self, stored: Stored) -> Option<Summary>
         ensures { (m : Mode) (v : Value) → Holds self.now stored v
             → IfSome result (λ s. IsOfLeaf m s v) }
@@ -142,6 +105,7 @@ impl Unfolding {
     }
 
     /// What is known of what a member leads to, where that is an integer or a formula that needs no check.
+    #[inline(always)]
     fn known_member(&self, head: &Head<'_>) -> Option<Summary>
         ensures { (m : Mode) (base : Env) (v : Value) → Heads m self.now base head.now v
             → IfSome result (λ s. IsOfLeaf m s v) }
@@ -154,12 +118,40 @@ impl Unfolding {
         }
     }
 
+    /// What is known of what a member leads to, where that is a formula without a fault: a body with such formulas depends
+    /// on this alone.
+    #[inline(always)]
+    fn kind_of(&self, head: &Head<'_>) -> Option<Summary>
+        ensures holds { (m : Mode) (base : Env) (v : Value) → Heads m self.now base head.now v
+            → IfSome result (λ kind. IsOfLeaf m kind v) }
+        ensures certain { (m : Mode) (v : Value)
+            → IfSome result (λ kind. IsOfLeaf covering kind v → IsOfLeaf m kind v) }
+    {
+        let kind = self.known_member(head)?;
+        if kind.is_certain() { Some(kind) } else { None }
+    }
+
     /// What covers all members of a set, if there is such. Whether it does is for the caller to see.
     fn widest(&self, depth: u32, set: &Head<'_>, first: Summary) -> Option<Summary> {
+        if let Head::Held(stored) = *set {
+            return self.widest_held(self.held_members(stored), first);
+        }
         let mut widest = first;
         for i in 0..self.member_count(set) {
             let head = self.member(depth, set, i).ok()?;
             let member = self.known_member(&head)?;
+            widest = widest.widest(&member)?;
+        }
+        Some(widest)
+    }
+
+    /// What covers all of these stored values, if there is such. Where they are in order, what covers the first one and the
+    /// last covers the others.
+    fn widest_held(&self, members: &[Stored], first: Summary) -> Option<Summary> {
+        let last = self.held_leaf(*members.last()?)?;
+        let mut widest = first.widest(&last)?;
+        for member in members {
+            let member = self.held_leaf(*member)?;
             widest = widest.widest(&member)?;
         }
         Some(widest)
@@ -183,6 +175,7 @@ impl Unfolding {
     }
 
     /// Whether what is known of a body is so for what a member leads to.
+    #[inline(always)]
     fn is_known(&self, known: &BodyFact, head: &Head<'_>) -> bool
         ensures { (m : Mode) (scope : Variables) (q : Operands) (base env : Env) (v : Value)
             → result ≡ true → IsOfBody self.now scope q known.now
@@ -228,6 +221,7 @@ impl Unfolding {
 
     /// What is known of the value that an expression leads to.
     #[cycle(summing)]
+    #[inline(always)]
     fn head_summary(&self, depth: u32, head: Head<'_>, room: Room) -> Result<Summary, UnfoldFault>
         ensures light { IfOk result (λ s. s.weight ≤ room) }
         ensures holds { (m : Mode) (base : Env) (v : Value) → Heads m self.now base head.entry v
@@ -386,31 +380,105 @@ impl Unfolding {
         if count == 0 {
             return Ok(Summary::none());
         }
-        let first = self.body(at, bodies, &set, 0, BodyFact::none(), room)?;
-        let mut all = first.summary.as_formula();
-        let mut last = first;
+        let mut known = Known::none(self.alloc);
+        let first = self.body(at, bodies, &set, 0, &mut known, room)?;
+        let mut all = first.as_formula();
         for i in 1..count {
             let left = room.without(all.weight).less(1)?;
-            let next = self.body(at, bodies, &set, i, last, left)?;
-            all = Summary::over_two(BinaryOp::Logic(op), &all, &next.summary);
-            last = next;
+            let next = self.body(at, bodies, &set, i, &mut known, left)?;
+            all = Summary::over_two(BinaryOp::Logic(op), &all, &next);
         }
         Ok(all)
     }
 
-    /// What is known of the body of a quantifier where its variable is member `i` of its set: what was known of the last
-    /// body, where the member is the same stored value.
+    /// What is known of the body of a quantifier where its variable is member `i` of its set: what was known of it
+    /// before, if it was.
     #[cycle(summing)]
+    #[inline(always)]
     fn body(
         &self,
         at: Site<'_>,
         bodies: Quantified<'_>,
         set: &Head<'_>,
         i: usize,
-        last: BodyFact,
+        known: &mut Known,
+        room: Room,
+    ) -> Result<Summary, UnfoldFault>
+        requires { AreKnown self.now at.scope.now bodies set.now known.old }
+        ensures light { IfOk result (λ s. s.weight ≤ room) }
+        ensures holds { (m : Mode) (base env : Env) (s v : Value)
+            → MeetsBody m self.now base at.entry.scope.now env bodies.entry
+            → Heads m self.now base set.now s → slice_get (members s) i ≡ Some v
+            → IfOk result (λ r. IsSummary m r (resolved_body bodies.entry env v)) }
+        ensures known { OnOk result
+            (AreKnown self.now at.entry.scope.now bodies.entry set.now known.new) }
+        ensures heavy { (m : Mode) (base env : Env) (s v : Value)
+            → MeetsBody m self.now base at.entry.scope.now env bodies.entry
+            → Heads m self.now base set.now s → slice_get (members s) i ≡ Some v
+            → IfErr result (λ why. why ≡ Heavy → room < weight (resolved_body bodies.entry env v)) }
+    {
+        if let Some(summary) = known.ahead.at(i) {
+            room.less(summary.weight)?;
+            return Ok(summary);
+        }
+        self.next_body(at, bodies, set, i, known, room)
+    }
+
+    /// What is known of the body of a quantifier where its variable is member `i` of its set, which isn't one of those
+    /// that were checked together: what was known of the last one, if that is so for the member.
+    #[cycle(summing)]
+    fn next_body(
+        &self,
+        at: Site<'_>,
+        bodies: Quantified<'_>,
+        set: &Head<'_>,
+        i: usize,
+        known: &mut Known,
+        room: Room,
+    ) -> Result<Summary, UnfoldFault>
+        requires { AreKnown self.now at.scope.now bodies set.now known.old }
+        ensures light { IfOk result (λ s. s.weight ≤ room) }
+        ensures holds { (m : Mode) (base env : Env) (s v : Value)
+            → MeetsBody m self.now base at.entry.scope.now env bodies.entry
+            → Heads m self.now base set.now s → slice_get (members s) i ≡ Some v
+            → IfOk result (λ r. IsSummary m r (resolved_body bodies.entry env v)) }
+        ensures known { OnOk result
+            (AreKnown self.now at.entry.scope.now bodies.entry set.now known.new) }
+        ensures heavy { (m : Mode) (base env : Env) (s v : Value)
+            → MeetsBody m self.now base at.entry.scope.now env bodies.entry
+            → Heads m self.now base set.now s → slice_get (members s) i ≡ Some v
+            → IfErr result (λ why. why ≡ Heavy → room < weight (resolved_body bodies.entry env v)) }
+    {
+        let head = self.member(at.depth, set, i)?;
+        if self.is_known(&known.last, &head) {
+            let summary = known.last.summary();
+            room.less(summary.weight)?;
+            return Ok(summary);
+        }
+        if let Some(summary) = self.shared_body(at, bodies, set, i, &head, known, room)? {
+            return Ok(summary);
+        }
+        if i > 0 {
+            if let Some(summary) = self.kind_body(at, bodies, &head, &mut known.kinds, room)? {
+                return Ok(summary);
+            }
+        }
+        let last = self.own_body(at, bodies, set, i, room)?;
+        let summary = last.summary();
+        known.last = last;
+        Ok(summary)
+    }
+
+    /// What is known of the body of a quantifier where its variable is what member `i` of its set leads to.
+    #[cycle(summing)]
+    fn own_body(
+        &self,
+        at: Site<'_>,
+        bodies: Quantified<'_>,
+        set: &Head<'_>,
+        i: usize,
         room: Room,
     ) -> Result<BodyFact, UnfoldFault>
-        requires { IsOfBody self.now at.scope.now bodies last }
         ensures light { IfOk result (λ r. r.summary.weight ≤ room) }
         ensures holds { (m : Mode) (base env : Env) (s v : Value)
             → MeetsBody m self.now base at.entry.scope.now env bodies.entry
@@ -423,15 +491,6 @@ impl Unfolding {
             → IfErr result (λ why. why ≡ Heavy → room < weight (resolved_body bodies.entry env v)) }
     {
         let head = self.member(at.depth, set, i)?;
-        if self.is_known(&last, &head) {
-            room.less(last.summary.weight)?;
-            return Ok(last);
-        }
-        if i == 0 {
-            if let Some(known) = self.covered_body(at, bodies, set, &head, room)? {
-                return Ok(known);
-            }
-        }
         let scope = &Scope::bound(&*bodies.name, head, i, &*at.scope);
         let summary = self.summary(Site { scope, ..at }, bodies.body, room)?;
         Ok(BodyFact {
@@ -439,6 +498,56 @@ impl Unfolding {
             cover: None,
             summary,
         })
+    }
+
+    /// What is known of the body of a quantifier where its variable is what member `i` of its set leads to, and where
+    /// bodies are checked together: of the first member by what covers them all, and of others by going over several.
+    #[cycle(summing)]
+    fn shared_body(
+        &self,
+        at: Site<'_>,
+        bodies: Quantified<'_>,
+        set: &Head<'_>,
+        i: usize,
+        head: &Head<'_>,
+        known: &mut Known,
+        room: Room,
+    ) -> Result<Option<Summary>, UnfoldFault>
+        requires { AreKnown self.now at.scope.now bodies set.now known.old }
+        ensures light { IfOk result (λ r. IfSome r (λ s. s.weight ≤ room)) }
+        ensures holds { (m : Mode) (base env : Env) (s v : Value)
+            → MeetsBody m self.now base at.entry.scope.now env bodies.entry
+            → Heads m self.now base set.now s → slice_get (members s) i ≡ Some v
+            → Heads m self.now base head.now v
+            → IfOk result (λ r. IfSome r (λ k. IsSummary m k (resolved_body bodies.entry env v))) }
+        ensures known { OnOk result
+            (AreKnown self.now at.entry.scope.now bodies.entry set.now known.new) }
+        ensures heavy { (m : Mode) (base env : Env) (s v : Value)
+            → MeetsBody m self.now base at.entry.scope.now env bodies.entry
+            → Heads m self.now base set.now s → slice_get (members s) i ≡ Some v
+            → Heads m self.now base head.now v
+            → IfErr result (λ why. why ≡ Heavy → room < weight (resolved_body bodies.entry env v)) }
+    {
+        if i == 0 {
+            if let Some(last) = self.covered_body(at, bodies, set, head, room)? {
+                let summary = last.summary();
+                known.last = last;
+                return Ok(Some(summary));
+            }
+        }
+        if known.alone {
+            return Ok(None);
+        }
+        let Some(ahead) = self.bodies_ahead(at, bodies, set, i, room)? else {
+            known.alone = true;
+            return Ok(None);
+        };
+        known.ahead = ahead;
+        let Some(summary) = known.ahead.at(i) else {
+            return Ok(None);
+        };
+        room.less(summary.weight)?;
+        Ok(Some(summary))
     }
 
     /// What is known of the body of a quantifier where its variable is anything that covers the members of its set: a
@@ -477,6 +586,76 @@ impl Unfolding {
             cover: Some(cover),
             summary,
         }))
+    }
+
+    /// What is known of the body of a quantifier where its variable is what a member leads to, if that is a formula without
+    /// a fault: what was known for its kind, if it was.
+    #[cycle(summing)]
+    fn kind_body(
+        &self,
+        at: Site<'_>,
+        bodies: Quantified<'_>,
+        head: &Head<'_>,
+        kinds: &mut Vec<BodyFact>,
+        room: Room,
+    ) -> Result<Option<Summary>, UnfoldFault>
+        requires { AreOfBody self.now at.scope.now bodies kinds.old.items }
+        ensures light { IfOk result (λ r. IfSome r (λ s. s.weight ≤ room)) }
+        ensures holds { (m : Mode) (base env : Env) (v : Value)
+            → MeetsBody m self.now base at.entry.scope.now env bodies.entry
+            → Heads m self.now base head.now v
+            → IfOk result (λ r. IfSome r (λ k. IsSummary m k (resolved_body bodies.entry env v))) }
+        ensures known { OnOk result
+            (AreOfBody self.now at.entry.scope.now bodies.entry kinds.new.items) }
+        ensures heavy { (m : Mode) (base env : Env) (v : Value)
+            → MeetsBody m self.now base at.entry.scope.now env bodies.entry
+            → Heads m self.now base head.now v
+            → IfErr result (λ why. why ≡ Heavy → room < weight (resolved_body bodies.entry env v)) }
+    {
+        let Some(kind) = self.kind_of(head) else {
+            return Ok(None);
+        };
+        if let Some(summary) = kind_in(kinds.as_slice(), &kind) {
+            room.less(summary.weight)?;
+            return Ok(Some(summary));
+        }
+        if kinds.len() >= KINDS {
+            return Ok(None);
+        }
+        let fact = self.body_of_kind(at, bodies, &kind, room)?;
+        let summary = fact.summary();
+        kinds.push(fact)?;
+        Ok(Some(summary))
+    }
+
+    /// What is known of the body of a quantifier where its variable is a formula without a fault of which this is known.
+    #[cycle(summing)]
+    fn body_of_kind(
+        &self,
+        at: Site<'_>,
+        bodies: Quantified<'_>,
+        kind: &Summary,
+        room: Room,
+    ) -> Result<BodyFact, UnfoldFault>
+        requires { (m : Mode) (v : Value) → IsOfLeaf covering kind.now v → IsOfLeaf m kind.now v }
+        ensures light { IfOk result (λ r. r.summary.weight ≤ room) }
+        ensures holds { (m : Mode) (base env : Env) (v : Value)
+            → MeetsBody m self.now base at.entry.scope.now env bodies.entry
+            → IsOfLeaf m kind.now v
+            → IfOk result (λ r. IsSummary m r.summary (resolved_body bodies.entry env v)) }
+        ensures known { IfOk result (λ r. IsOfBody self.now at.entry.scope.now bodies.entry r) }
+        ensures heavy { (m : Mode) (base env : Env) (v : Value)
+            → MeetsBody m self.now base at.entry.scope.now env bodies.entry
+            → IsOfLeaf m kind.now v
+            → IfErr result (λ why. why ≡ Heavy → room < weight (resolved_body bodies.entry env v)) }
+    {
+        let scope = &Scope::bound(&*bodies.name, Head::Covered(kind), 0, &*at.scope);
+        let summary = self.summary(Site { scope, ..at }, bodies.body, room)?;
+        Ok(BodyFact {
+            member: None,
+            cover: Some(*kind),
+            summary,
+        })
     }
 
     /// What is known of a counting quantifier over its bodies, one for each member of its set.
@@ -536,12 +715,11 @@ impl Unfolding {
         let count = self.member_count(&set);
         let mut fact = Fact::truth();
         let mut left = room;
-        let mut last = BodyFact::none();
+        let mut known = Known::none(self.alloc);
         for i in 0..count {
-            let next = self.body(at, bodies, &set, i, last, left)?;
-            left = left.without(next.summary.weight);
-            fact = Fact::joined(&next.summary.fact, &fact);
-            last = next;
+            let next = self.body(at, bodies, &set, i, &mut known, left)?;
+            left = left.without(next.weight);
+            fact = Fact::joined(&next.fact, &fact);
         }
         Ok(Gathered { count, fact, left })
     }

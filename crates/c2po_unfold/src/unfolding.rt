@@ -34,6 +34,8 @@ const DEPTH: u32 = u32::MAX;
 /// The meanings of the names of a specification, with what is known of their values.
 #[derive(Drop)]
 pub struct Unfolding {
+    /// Where what is known of bodies is allocated while they are checked.
+    pub(crate) alloc: Global,
     pub(crate) names: Meanings,
     pub(crate) structs: List<Fields>,
     pub(crate) parts: List<Parts>,
@@ -55,6 +57,7 @@ impl Unfolding {
         ensures { StandsFor result no_names }
     {
         Unfolding {
+            alloc,
             names: Meanings::new(alloc),
             structs: List::new(alloc),
             parts: List::new(alloc),

@@ -21,6 +21,7 @@ pub struct Stored {
 
 impl Location {
     /// Whether this is the same place.
+    #[inline(always)]
     fn is(self, other: Location) -> bool
         ensures { result ≡ true → self ≡ other }
     {
@@ -34,6 +35,7 @@ impl Location {
 
 impl Stored {
     /// Whether this is the same stored value, without a fault.
+    #[inline(always)]
     pub(crate) fn is(self, other: Stored) -> bool
         ensures { result ≡ true → self ≡ other }
     {
@@ -60,6 +62,7 @@ pub struct Parts {
 
 impl Whole {
     /// Whether these are parts of a struct's value of this name, or a set as well.
+    #[inline(always)]
     fn is(&self, other: &Whole) -> bool
         ensures { result ≡ true → self.now ≡ other.now }
     {
