@@ -1,7 +1,7 @@
 -- What the engines show of verdicts and of words, from some time on.
 
 use Rattle.std.specs.Prelude.{ℕ, ◌≡◌, ◌≢◌, ◌+◌, ◌<◌, ◌≤◌, Bool, Option, Some, None, List, length, slice_get}
-use Rattle.std.specs.Prelude.{slice_index}
+use Rattle.std.specs.Prelude.{IfSome, slice_index, ⊤}
 use Rattle.mltl_base.specs.declared.interval.Engine as engine
 use Rattle.mltl_base.specs.declared.program.Out as out
 use Rattle.mltl_base.specs.declared.program.Program.{Program}
@@ -81,6 +81,15 @@ abbrev pub ShowsWords : List Word → ℕ → Option Stretch → Type 0
 ShowsWords told from (Some stretch) = IsLongestStretch told from stretch.last stretch.word
 ShowsWords told from None = length told ≤ from
 
+-- the run that is shown, where one is, ends with the last verdict that is known
+abbrev pub IsNewest : List Bool → Seen → Type 0
+IsNewest values (Run last value) = length values ≤ last + 1
+IsNewest values Nothing = ⊤
+
+-- the stretch, where there is one, ends with the last word that is known
+abbrev pub IsLast : List Word → Option Stretch → Type 0
+IsLast told found = IfSome found (λ stretch. length told ≤ stretch.last + 1)
+
 -- where the first report from a time on ends: there with a report for each time, else with the longest stretch
 abbrev pub IsEnd : Style → List Word → ℕ → ℕ → Word → Type 0
 IsEnd Each told from last word = last ≡ from
@@ -108,3 +117,9 @@ pub record IsFirstOpen (program : Program) (rows : List Row) (next_times : List 
 abbrev pub FindsOpen : Program → List Row → List ℕ → Option (ℕ × Stretch) → Type 0
 FindsOpen program rows next_times (Some (k, stretch)) = IsFirstOpen program rows next_times k stretch
 FindsOpen program rows next_times None = AreTold program rows next_times (length program.outs)
+
+-- the stretch that was found, where one was, ends with the last word of its output that is known
+abbrev pub FindsLast : Program → List Row → Option (ℕ × Stretch) → Type 0
+FindsLast program rows (Some (k, stretch)) =
+    (out : out.Out) → slice_get program.outs k ≡ Some out → length (known_words program rows out) ≤ stretch.last + 1
+FindsLast program rows None = ⊤

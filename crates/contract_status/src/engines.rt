@@ -1,11 +1,11 @@
 //! What both engines show of the outputs. These calls are inlined, so that a stretch stays in registers: through memory it
 //! would take longer than to find it.
 
-ghost use Rattle.std.specs.Prelude.{◌≡◌, ℕ, ◌+◌, ◌^◌, ◌<◌, ◌≤◌, true as holds, List, length, slice_get, slice_index, Some};
+ghost use Rattle.std.specs.Prelude.{◌≡◌, ℕ, ◌+◌, ◌^◌, ◌<◌, ◌≤◌, true as holds, List, length, slice_get, slice_index, Some, Ok, IfErr, IfOk, IfSome, IsFalse, IsSome, IsTrue};
 ghost use Rattle.mltl_base.specs.Atoms.{Row};
 ghost use Rattle.mltl_base.specs.declared.program.Program.{Program as Observer};
 ghost use Rattle.mltl_base.specs.declared.program.Out.{Out as Output};
-ghost use Rattle.mltl_base.specs.declared.interval.Engine.TheVariants.{Pt as past};
+ghost use Rattle.mltl_base.specs.declared.interval.Engine.TheVariants.{Ft as future, Pt as past};
 
 use crate::cursor::Cursor;
 use ft_engine::Ft;
@@ -39,6 +39,7 @@ impl Stretch {
     pub fn last_covered(self, style: Style, from: u64) -> u64
         ensures covers { (told : List Told) → IsLongestStretch told from self.last self.word
             → Covers style told from result self.word }
+        ensures within { from ≤ self.last → result ≤ self.last }
     {
         match style {
             Style::Each => from,
@@ -49,20 +50,66 @@ impl Stretch {
 
 impl Engines<'_> {
     ghost use Rattle.contract_status.specs.Cursors.{FitsEngines, LooksOnward};
-    ghost use Rattle.contract_status.specs.Stretches.{AreReadable, AreTold, CanRead, CanReport, FindsOpen, HaveTaken, IsLongestStretch, ShowsVerdicts, ShowsWords, contract_words, formula_words, known_verdicts, known_words};
+    ghost use Rattle.contract_status.specs.Stretches.{AreReadable, AreTold, CanRead, CanReport, FindsLast, FindsOpen, HaveTaken, IsLast, IsLongestStretch, IsNewest, ShowsVerdicts, ShowsWords, contract_words, formula_words, known_verdicts, known_words};
     ghost use Rattle.contract_status.specs.Open.{AreKnown};
     ghost use Rattle.contract_status.specs.declared.engines.Stretch.{Stretch as Found};
 
-    /// The verdict of an instruction at a time, and the last time up to which it stays the same.
+    /// The verdict of an instruction at a time, and the last time up to which it stays the same. `None` only where that takes a
+    /// search and none is asked for.
     #[inline(always)]
-    fn verdicts_from(&self, engine: Engine, i: u32, from: u64) -> Seen
+    fn verdicts_by(&self, searches: bool, engine: Engine, i: u32, from: u64) -> Option<Seen>
         requires readable { CanRead self.now engine i from }
         ensures shows { (program : Observer) (rows : List Row) → HaveTaken program rows self.now
-            → ShowsVerdicts (known_verdicts program rows engine i) from result }
+            → IfSome result (ShowsVerdicts (known_verdicts program rows engine i) from) }
+        ensures found { IsTrue searches → IsSome result }
+        ensures newest { IsFalse searches → (program : Observer) (rows : List Row)
+            → HaveTaken program rows self.now
+            → IfSome result (IsNewest (known_verdicts program rows engine i)) }
     {
         match engine {
-            Engine::Ft => self.ft.run_from(i, from),
-            Engine::Pt => self.last_verdict(i, from),
+            Engine::Ft => self.future_by(searches, i, from),
+            Engine::Pt => Some(self.last_verdict(i, from)),
+        }
+    }
+
+    /// The verdict of a future-time instruction, as `verdicts_by` has it.
+    #[inline(always)]
+    fn future_by(&self, searches: bool, i: u32, from: u64) -> Option<Seen>
+        requires readable { CanRead self.now future i from }
+        ensures shows { (program : Observer) (rows : List Row) → HaveTaken program rows self.now
+            → IfSome result (ShowsVerdicts (known_verdicts program rows future i) from) }
+        ensures found { IsTrue searches → IsSome result }
+        ensures newest { IsFalse searches → (program : Observer) (rows : List Row)
+            → HaveTaken program rows self.now
+            → IfSome result (IsNewest (known_verdicts program rows future i)) }
+    {
+        if searches {
+            Some(self.ft.run_from(i, from))
+        } else {
+            self.newest_from(i, from)
+        }
+    }
+
+    /// The verdict of a future-time instruction, where that takes no search: then its run is the newest. The comparison with the
+    /// frontier says so, and costs nothing, since such a run ends before it.
+    #[inline(always)]
+    fn newest_from(&self, i: u32, from: u64) -> Option<Seen>
+        requires readable { CanRead self.now future i from }
+        ensures shows { (program : Observer) (rows : List Row) → HaveTaken program rows self.now
+            → IfSome result (ShowsVerdicts (known_verdicts program rows future i) from) }
+        ensures newest { (program : Observer) (rows : List Row) → HaveTaken program rows self.now
+            → IfSome result (IsNewest (known_verdicts program rows future i)) }
+    {
+        match self.ft.newest_from(i, from) {
+            None => None,
+            Some(Seen::Nothing) => Some(Seen::Nothing),
+            Some(Seen::Run(last, value)) => {
+                if self.ft.front(i) - 1 == last {
+                    Some(Seen::Run(last, value))
+                } else {
+                    None
+                }
+            }
         }
     }
 
@@ -72,6 +119,8 @@ impl Engines<'_> {
         requires readable { CanRead self.now past i from }
         ensures shows { (program : Observer) (rows : List Row) → HaveTaken program rows self.now
             → ShowsVerdicts (known_verdicts program rows past i) from result }
+        ensures newest { (program : Observer) (rows : List Row) → HaveTaken program rows self.now
+            → IsNewest (known_verdicts program rows past i) result }
     {
         if from < self.rows {
             Seen::Run(from, self.pt.now(i))
@@ -80,65 +129,138 @@ impl Engines<'_> {
         }
     }
 
-    /// The word of a formula at a time, and the last time up to which it stays the same.
+    /// The word of a formula at a time, and the last time up to which it stays the same. `None` as `verdicts_by` has it.
     #[inline(always)]
-    fn formula_from(&self, engine: Engine, i: u32, from: u64) -> Option<Stretch>
+    fn formula_by(
+        &self,
+        searches: bool,
+        engine: Engine,
+        i: u32,
+        from: u64,
+    ) -> Option<Option<Stretch>>
         requires readable { CanRead self.now engine i from }
         ensures shows { (program : Observer) (rows : List Row) → HaveTaken program rows self.now
-            → ShowsWords (formula_words program rows engine i) from result }
+            → IfSome result (ShowsWords (formula_words program rows engine i) from) }
+        ensures found { IsTrue searches → IsSome result }
+        ensures newest { IsFalse searches → (program : Observer) (rows : List Row)
+            → HaveTaken program rows self.now
+            → IfSome result (IsLast (formula_words program rows engine i)) }
     {
-        match self.verdicts_from(engine, i, from) {
-            Seen::Run(last, true) => Some(Stretch {
+        match self.verdicts_by(searches, engine, i, from) {
+            None => None,
+            Some(Seen::Run(last, true)) => Some(Some(Stretch {
                 last,
                 word: Word::T,
-            }),
-            Seen::Run(last, false) => Some(Stretch {
+            })),
+            Some(Seen::Run(last, false)) => Some(Some(Stretch {
                 last,
                 word: Word::F,
-            }),
-            Seen::Nothing => None,
+            })),
+            Some(Seen::Nothing) => Some(None),
         }
     }
 
     /// The status of a contract of two instructions at a time, and the last time up to which it stays the same. Where the
-    /// first is false, the second needn't be known.
+    /// first is false, the second needn't be known. `None` as `verdicts_by` has it.
     #[inline(always)]
-    fn contract_from(&self, engine: Engine, i: u32, j: u32, from: u64) -> Option<Stretch>
+    fn contract_by(
+        &self,
+        searches: bool,
+        engine: Engine,
+        i: u32,
+        j: u32,
+        from: u64,
+    ) -> Option<Option<Stretch>>
         requires first { CanRead self.now engine i from }
         requires second { CanRead self.now engine j from }
         ensures shows { (program : Observer) (rows : List Row) → HaveTaken program rows self.now
-            → from ≤ length (contract_words program rows engine i j) → ShowsWords (contract_words program rows engine i j) from result }
+            → from ≤ length (contract_words program rows engine i j)
+            → IfSome result (ShowsWords (contract_words program rows engine i j) from) }
+        ensures found { IsTrue searches → IsSome result }
+        ensures newest { IsFalse searches → (program : Observer) (rows : List Row)
+            → HaveTaken program rows self.now
+            → IfSome result (IsLast (contract_words program rows engine i j)) }
     {
-        match self.verdicts_from(engine, i, from) {
-            Seen::Run(last, false) => Some(Stretch {
+        match self.verdicts_by(searches, engine, i, from) {
+            None => None,
+            Some(Seen::Run(last, false)) => Some(Some(Stretch {
                 last,
                 word: Word::Inactive,
-            }),
-            Seen::Run(last, true) => self.guarantee_from(engine, j, from, last),
-            Seen::Nothing => None,
+            })),
+            Some(Seen::Run(last, true)) => self.guarantee_by(searches, engine, j, from, last),
+            Some(Seen::Nothing) => Some(None),
         }
     }
 
-    /// The status of a contract whose first instruction is true from a time up to `last`.
+    /// The status of a contract whose first instruction is true from a time up to `last`. `None` as `verdicts_by` has it.
     #[inline(always)]
-    fn guarantee_from(&self, engine: Engine, j: u32, from: u64, last: u64) -> Option<Stretch>
+    fn guarantee_by(
+        &self,
+        searches: bool,
+        engine: Engine,
+        j: u32,
+        from: u64,
+        last: u64,
+    ) -> Option<Option<Stretch>>
         requires readable { CanRead self.now engine j from }
         ensures shows { (program : Observer) (rows : List Row) (i : ℕ)
             → HaveTaken program rows self.now
             → from ≤ length (contract_words program rows engine i j)
             → IsLongestStretch (known_verdicts program rows engine i) from last holds
-            → ShowsWords (contract_words program rows engine i j) from result }
+            → IfSome result (ShowsWords (contract_words program rows engine i j) from) }
+        ensures found { IsTrue searches → IsSome result }
+        ensures newest { IsFalse searches → (program : Observer) (rows : List Row) (i : ℕ)
+            → HaveTaken program rows self.now
+            → IsLongestStretch (known_verdicts program rows engine i) from last holds
+            → length (known_verdicts program rows engine i) ≤ last + 1
+            → IfSome result (IsLast (contract_words program rows engine i j)) }
     {
-        match self.verdicts_from(engine, j, from) {
-            Seen::Run(end, true) => Some(Stretch {
+        match self.verdicts_by(searches, engine, j, from) {
+            None => None,
+            Some(Seen::Run(end, true)) => Some(Some(Stretch {
                 last: last.min(end),
                 word: Word::Verified,
-            }),
-            Seen::Run(end, false) => Some(Stretch {
+            })),
+            Some(Seen::Run(end, false)) => Some(Some(Stretch {
                 last: last.min(end),
                 word: Word::Invalid,
-            }),
-            Seen::Nothing => None,
+            })),
+            Some(Seen::Nothing) => Some(None),
+        }
+    }
+
+    /// The word of an output at a time, and the last time up to which it stays the same. `None` as `verdicts_by` has it.
+    #[inline(always)]
+    fn stretch_by(&self, searches: bool, out: &Out, from: u64) -> Option<Option<Stretch>>
+        requires readable { CanReport self.now out.now from }
+        ensures shows { (program : Observer) (rows : List Row) → HaveTaken program rows self.now
+            → from ≤ length (known_words program rows out.now)
+            → IfSome result (ShowsWords (known_words program rows out.now) from) }
+        ensures found { IsTrue searches → IsSome result }
+        ensures newest { IsFalse searches → (program : Observer) (rows : List Row)
+            → HaveTaken program rows self.now
+            → IfSome result (IsLast (known_words program rows out.now)) }
+    {
+        match *out {
+            Out::Formula(engine, i, _) => self.formula_by(searches, engine, i, from),
+            Out::Contract(engine, i, j, _) => self.contract_by(searches, engine, i, j, from),
+        }
+    }
+
+    /// The word of an output that is a formula, where that takes no search. Contracts have two queues, which would cost each caller
+    /// registers.
+    #[inline(always)]
+    fn formula_at_once(&self, out: &Out, from: u64) -> Option<Option<Stretch>>
+        requires readable { CanReport self.now out.now from }
+        ensures shows { (program : Observer) (rows : List Row) → HaveTaken program rows self.now
+            → from ≤ length (known_words program rows out.now)
+            → IfSome result (ShowsWords (known_words program rows out.now) from) }
+        ensures newest { (program : Observer) (rows : List Row) → HaveTaken program rows self.now
+            → IfSome result (IsLast (known_words program rows out.now)) }
+    {
+        match *out {
+            Out::Formula(engine, i, _) => self.formula_by(false, engine, i, from),
+            Out::Contract(_, _, _, _) => None,
         }
     }
 
@@ -149,9 +271,9 @@ impl Engines<'_> {
         ensures shows { (program : Observer) (rows : List Row) → HaveTaken program rows self.now
             → from ≤ length (known_words program rows out.now) → ShowsWords (known_words program rows out.now) from result }
     {
-        match *out {
-            Out::Formula(engine, i, _) => self.formula_from(engine, i, from),
-            Out::Contract(engine, i, j, _) => self.contract_from(engine, i, j, from),
+        match self.stretch_by(true, out, from) {
+            Some(found) => found,
+            None => unreachable!(),
         }
     }
 
@@ -237,6 +359,102 @@ impl Engines<'_> {
         match cursor.stretch {
             Some(stretch) => Some((cursor.out, stretch)),
             None => self.first_open_here(program, next_times, cursor.out, steps),
+        }
+    }
+
+    /// What `first_open` gives where that takes no search, of the output `first` alone, if it is a formula: then the stretch is the last that is known of
+    /// it. Else an `Err` says where to search on.
+    #[inline(always)]
+    fn first_at_once(
+        &self,
+        program: &Program,
+        next_times: &[u64],
+        first: usize,
+    ) -> Result<Option<(usize, Stretch)>, usize>
+        requires readable { AreReadable program.now self.now next_times.now }
+        requires same_length { length next_times.now ≡ length program.now.outs }
+        requires told { (rows : List Row) → HaveTaken program.now rows self.now
+            → AreKnown program.now rows next_times.now
+            → AreTold program.now rows next_times.now first }
+        ensures finds { (rows : List Row) → HaveTaken program.now rows self.now
+            → AreKnown program.now rows next_times.now
+            → IfOk result (FindsOpen program.now rows next_times.now) }
+        ensures last { (rows : List Row) → HaveTaken program.now rows self.now
+            → IfOk result (FindsLast program.now rows) }
+        ensures told { (rows : List Row) → HaveTaken program.now rows self.now
+            → AreKnown program.now rows next_times.now
+            → IfErr result (AreTold program.now rows next_times.now) }
+    {
+        if first >= program.outs.len() {
+            return Ok(None);
+        }
+        match self.formula_at_once(program.outs.get(first), next_times[first]) {
+            None => Err(first),
+            Some(Some(stretch)) => Ok(Some((first, stretch))),
+            Some(None) if first + 1 >= program.outs.len() => Ok(None),
+            Some(None) => Err(first + 1),
+        }
+    }
+
+    /// The same of the outputs from `first` on.
+    #[inline(always)]
+    fn onward_at_once(
+        &self,
+        program: &Program,
+        next_times: &[u64],
+        first: usize,
+    ) -> Result<Option<(usize, Stretch)>, usize>
+        requires readable { AreReadable program.now self.now next_times.now }
+        requires same_length { length next_times.now ≡ length program.now.outs }
+        requires told { (rows : List Row) → HaveTaken program.now rows self.now
+            → AreKnown program.now rows next_times.now
+            → AreTold program.now rows next_times.now first }
+        ensures finds { (rows : List Row) → HaveTaken program.now rows self.now
+            → AreKnown program.now rows next_times.now
+            → IfOk result (FindsOpen program.now rows next_times.now) }
+        ensures last { (rows : List Row) → HaveTaken program.now rows self.now
+            → IfOk result (FindsLast program.now rows) }
+        ensures told { (rows : List Row) → HaveTaken program.now rows self.now
+            → AreKnown program.now rows next_times.now
+            → IfErr result (AreTold program.now rows next_times.now) }
+    {
+        for k in first..program.outs.len() {
+            match self.stretch_by(false, program.outs.get(k), next_times[k]) {
+                None => return Err(k),
+                Some(Some(stretch)) => return Ok(Some((k, stretch))),
+                Some(None) => {}
+            }
+        }
+        Ok(None)
+    }
+
+    /// What `first_at_once` gives, or where it looks `far` what `onward_at_once` does.
+    #[inline(always)]
+    pub fn open_at_once(
+        &self,
+        program: &Program,
+        next_times: &[u64],
+        first: usize,
+        far: bool,
+    ) -> Result<Option<(usize, Stretch)>, usize>
+        requires readable { AreReadable program.now self.now next_times.now }
+        requires same_length { length next_times.now ≡ length program.now.outs }
+        requires told { (rows : List Row) → HaveTaken program.now rows self.now
+            → AreKnown program.now rows next_times.now
+            → AreTold program.now rows next_times.now first }
+        ensures finds { (rows : List Row) → HaveTaken program.now rows self.now
+            → AreKnown program.now rows next_times.now
+            → IfOk result (FindsOpen program.now rows next_times.now) }
+        ensures last { (rows : List Row) → HaveTaken program.now rows self.now
+            → IfOk result (FindsLast program.now rows) }
+        ensures told { (rows : List Row) → HaveTaken program.now rows self.now
+            → AreKnown program.now rows next_times.now
+            → IfErr result (AreTold program.now rows next_times.now) }
+    {
+        if far {
+            self.onward_at_once(program, next_times, first)
+        } else {
+            self.first_at_once(program, next_times, first)
         }
     }
 

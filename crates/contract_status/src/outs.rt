@@ -2,7 +2,7 @@
 
 use crate::cursor::Cursor;
 use crate::engines::Engines;
-use crate::first_report::tell_first;
+use crate::first_report::{tell_at_once, tell_first};
 use fixed_list::Fixed;
 use ft_engine::Ft;
 use mltl_base::steps::Steps;
@@ -28,7 +28,7 @@ impl Model for Outs {
 }
 
 impl Outs {
-    ghost use Rattle.std.specs.Prelude.{◌≡◌, ◌+◌, ◌≤◌, ◌↔◌, List, [], length, replicate, IfOk, IfSome, IsTrue};
+    ghost use Rattle.std.specs.Prelude.{◌≡◌, ◌+◌, ◌≤◌, ◌↔◌, List, [], length, replicate, IfOk, IfSome, IsNone, IsTrue};
     ghost use Rattle.mltl_base.specs.declared.limits.TheConstants.{MAX_MISSION};
     ghost use Rattle.mltl_base.specs.declared.report.Style.{Style as Form};
     ghost use Rattle.mltl_base.specs.declared.report.Style.TheVariants.{Each as each, Runs as runs};
@@ -121,6 +121,39 @@ impl Outs {
             self.times.as_mut_slice(),
             cursor,
             steps,
+        )
+    }
+
+    /// What `next_at` gives where that takes no search: the cursor's stretch or its output tells which report is the first, and
+    /// where it looks `far` also an output after that. `None`, and no change but that of the cursor, where they don't.
+    #[inline(always)]
+    pub fn next_at_once(
+        &mut self,
+        style: Style,
+        cursor: &mut Cursor,
+        checked: &Checked,
+        ft: &Ft,
+        pt: &Pt,
+        n: &u64,
+        far: bool,
+    ) -> Option<Option<Report>>
+        requires early { n.now ≤ MAX_MISSION }
+        requires stands { (rows : List Row) × StandFor checked.now rows n.now ft.now pt.now self.old }
+        requires cursor { FitsCursor checked.now n.now ft.now pt.now self.old cursor.old }
+        ensures gives { IfSome result (λ told.
+            GivesNext style checked.now n.now ft.now pt.now told self.old self.new) }
+        ensures cursor { FitsCursor checked.now n.now ft.now pt.now self.new cursor.new }
+        ensures same { IsNone result → self.new ≡ self.old }
+    {
+        tell_at_once(
+            style,
+            checked,
+            ft,
+            pt,
+            n,
+            self.times.as_mut_slice(),
+            cursor,
+            far,
         )
     }
 

@@ -1,12 +1,12 @@
 //! The calls of C.
 
-ghost use Rattle.std.specs.Prelude.{◌≡◌, ◌≢◌, ◌↔◌, ◌<◌, ◌≤◌, [], ◌∷◌, Contains, IsSome, IsSomeAnd, IfErr, IfOk, None};
+ghost use Rattle.std.specs.Prelude.{◌≡◌, ◌≢◌, ◌↔◌, ◌<◌, ◌≤◌, [], ◌∷◌, Contains, IsNone, IsSome, IsSomeAnd, IfErr, IfOk, IfSome, None, Some};
 ghost use Rattle.r2u2_monitor.specs.Monitoring.{IsDrained};
 ghost use Rattle.r2u2_c.specs.declared.opened.OpeningFault.TheVariants.{Memory};
-ghost use Rattle.r2u2_c.specs.Exports.{BeginsAgain, BringsFew, IsHeldBack, Opens, Refuses, Takes, Reports, row_cause};
+ghost use Rattle.r2u2_c.specs.Exports.{AnswersNext, BeginsAgain, BringsFew, IsHeldBack, Opens, Refuses, Takes, Reports, row_cause};
 ghost use Rattle.r2u2_c.specs.Faults.{opening_fault};
 ghost use Rattle.r2u2_c.specs.Opening.{opened_by, program_under};
-ghost use Rattle.r2u2_c.specs.Reports.{style_of};
+ghost use Rattle.r2u2_c.specs.Reports.{shown, style_of};
 
 use crate::c_monitor::R2u2;
 use crate::codes::{
@@ -14,10 +14,12 @@ use crate::codes::{
     TOO_MANY_ROWS,
 };
 use crate::fault::Fault;
+use crate::handle::Handle;
 use crate::opened::{OpeningFault, open_monitor, open_under};
-use crate::report::{Told, next_of};
+use crate::report::{Told, next_at_once_of, next_of};
 use crate::row_why::RowWhy;
-use r2u2_monitor::RowFault;
+use mltl_base::Report;
+use r2u2_monitor::{Monitor, RowFault};
 use std::alloc::Global;
 
 /// Opens the program that these bytes spell. Rows have the columns that it was compiled for.
@@ -138,17 +140,71 @@ pub extern "C" fn r2u2_next(it: &mut R2u2, alloc: Global, runs: u32, report: &mu
 {
     match it.handle.take(alloc) {
         None => NOT_OPEN,
-        Some(mut monitor) => match next_of(&mut monitor, runs) {
-            None => {
-                it.handle.put(monitor);
-                NO_REPORT
-            }
-            Some(next) => {
-                it.handle.put(monitor);
-                *report = Told::of(next);
-                DONE
-            }
-        },
+        Some(monitor) => next_in(&mut it.handle, monitor, runs, report),
+    }
+}
+
+/// Gives the next report of a monitor that was taken out, and puts it back. Where that takes no search it calls nothing, so it
+/// needs no stack.
+#[inline(always)]
+fn next_in(handle: &mut Handle, monitor: Box<Monitor>, runs: u32, report: &mut Told) -> u32
+    requires empty { handle.old.value ≡ None }
+    ensures { AnswersNext (style_of runs) result
+        report.old report.new monitor.value handle.new.value }
+{
+    let mut monitor = monitor;
+    match next_at_once_of(&mut monitor, runs, false) {
+        None => onward_in(handle, monitor, runs, report),
+        Some(told) => answer(handle, monitor, told, report),
+    }
+}
+
+/// The same with a look at all outputs from the next one on. It stays out of line, and calls nothing where no queue is searched.
+#[inline(never)]
+fn onward_in(handle: &mut Handle, monitor: Box<Monitor>, runs: u32, report: &mut Told) -> u32
+    requires empty { handle.old.value ≡ None }
+    ensures { AnswersNext (style_of runs) result
+        report.old report.new monitor.value handle.new.value }
+{
+    let mut monitor = monitor;
+    match next_at_once_of(&mut monitor, runs, true) {
+        None => search_in(handle, monitor, runs, report),
+        Some(told) => answer(handle, monitor, told, report),
+    }
+}
+
+/// The same by a search of a queue.
+#[inline(never)]
+fn search_in(handle: &mut Handle, monitor: Box<Monitor>, runs: u32, report: &mut Told) -> u32
+    requires empty { handle.old.value ≡ None }
+    ensures { AnswersNext (style_of runs) result
+        report.old report.new monitor.value handle.new.value }
+{
+    let mut monitor = monitor;
+    let told = next_of(&mut monitor, runs);
+    answer(handle, monitor, told, report)
+}
+
+/// Puts a monitor back, and shows C the report that it gave, if it gave one.
+#[inline(always)]
+fn answer(
+    handle: &mut Handle,
+    monitor: Box<Monitor>,
+    told: Option<Report>,
+    report: &mut Told,
+) -> u32
+    requires empty { handle.old.value ≡ None }
+    ensures back { handle.new.value ≡ Some monitor.value }
+    ensures some { IfSome told (λ next. (result ≡ DONE) × (report.new ≡ shown next)) }
+    ensures none { IsNone told → (result ≡ NO_REPORT) × (report.new ≡ report.old) }
+{
+    handle.put(monitor);
+    match told {
+        None => NO_REPORT,
+        Some(next) => {
+            *report = Told::of(next);
+            DONE
+        }
     }
 }
 

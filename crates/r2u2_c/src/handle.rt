@@ -27,12 +27,6 @@ impl Model for Handle {
 // What it owns says the same to every thread, so one thread may open it and another take rows.
 unsafe impl Send for Handle {}
 
-/// Frees a monitor. It stays out of line, so that a call that puts one back in an empty handle is short.
-#[inline(never)]
-fn release(monitor: Box<Monitor>) {
-    drop(monitor);
-}
-
 impl Handle {
     pub(crate) fn empty() -> Handle
         ensures { result.value ≡ None }
@@ -80,15 +74,17 @@ impl Handle {
         mem::replace(self, Handle::empty()).into_box(alloc)
     }
 
-    /// Puts a monitor in, and frees one that was open.
+    /// Puts a monitor in, where none is. That there is none is proved, so nothing tests it.
     #[inline(always)]
     pub(crate) fn put(&mut self, monitor: Box<Monitor>)
+        requires empty { self.old.value ≡ None }
         ensures { self.new.value ≡ Some monitor.value }
     {
         let alloc = *Box::allocator(&monitor);
         let old = mem::replace(self, Handle::with(monitor));
-        if let Some(old) = old.into_box(alloc) {
-            release(old);
+        match old.into_box(alloc) {
+            None => {}
+            Some(_) => unreachable!(),
         }
     }
 

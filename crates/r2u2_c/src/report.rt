@@ -1,6 +1,6 @@
 //! Reports as C reads them.
 
-ghost use Rattle.std.specs.Prelude.{◌≡◌};
+ghost use Rattle.std.specs.Prelude.{◌≡◌, IfSome, IsNone};
 ghost use Rattle.r2u2_monitor.specs.Monitoring.{ReturnsNext};
 ghost use Rattle.r2u2_c.specs.Reports.{shown, style_of, word_number};
 
@@ -55,4 +55,14 @@ pub(crate) fn next_of(monitor: &mut Monitor, runs: u32) -> Option<Report>
     ensures { ReturnsNext (style_of runs) result monitor.old monitor.new }
 {
     monitor.next(style_by(runs))
+}
+
+/// The next report, where that takes no search: of the output that is next, and where it looks `far` also of those after it.
+#[inline(always)]
+pub(crate) fn next_at_once_of(monitor: &mut Monitor, runs: u32, far: bool) -> Option<Option<Report>>
+    ensures returns { IfSome result (λ told.
+        ReturnsNext (style_of runs) told monitor.old monitor.new) }
+    ensures same { IsNone result → monitor.new ≡ monitor.old }
+{
+    monitor.next_at_once(style_by(runs), far)
 }

@@ -8,7 +8,9 @@ use Rattle.mltl_base.specs.declared.report.Style.{Style}
 use Rattle.mltl_base.specs.declared.report.Style.TheVariants.{Each}
 use Rattle.mltl_base.specs.Atoms.{Row}
 use Rattle.mltl_base.specs.Programs.{outputs}
+use Rattle.std.proofs.lemmas.Option.{IfSome_then}
 use Rattle.contract_status.specs.Open as status
+use Rattle.contract_status.specs.Standing.{GivesNext}
 use Rattle.contract_status.proofs.Opening.{no_other}
 use Rattle.r2u2_monitor.specs.declared.running.Running.{Running}
 use Rattle.r2u2_monitor.specs.declared.state.State.{State}
@@ -30,6 +32,23 @@ given_of_places before next_times report given = record {
   moved = ap (λ (outs : List ℕ). record before { outs = outs }) given.moved;
   fewer = given.fewer;
 }
+
+-- so what next times gave, what runs gave
+pub yields_of_places : (style : Style) (result : Option Report) (before : Running) (next_times : List ℕ) → GivesNext style before.checked before.taken before.ft before.pt result before.outs next_times
+    → YieldsNext style result before (record before { outs = next_times })
+yields_of_places style result before next_times gives =
+    let after : Running = record before { outs = next_times } in
+    record {
+      first = λ rows taken. gives_of_places style before.checked result before after rows refl refl (gives.first rows taken.stand);
+      stands = λ rows taken. record {
+        layout = taken.layout;
+        formed = taken.formed;
+        fit = taken.fit;
+        stand = record { future = taken.stand.future; past = taken.stand.past; placed = gives.placed rows taken.stand; count = taken.stand.count };
+      };
+      none = λ none. ap (λ (outs : List ℕ). record before { outs = outs }) (gives.none none);
+      given = IfSome_then result gives.given (λ report given. given_of_places before next_times report given);
+    }
 
 -- and so by a monitor that changed in nothing else, whose rows are at most 2 ^ 40
 pub given_of_running : (before : State) (after : Running) (report : Report) → before.running.taken ≤ 2 ^ 40 → Yields report before.running after → monitor.IsReturned report before (record before { running = after })

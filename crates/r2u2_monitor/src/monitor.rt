@@ -48,7 +48,7 @@ impl Model for Monitor {
 }
 
 impl Monitor {
-    ghost use Rattle.std.specs.Prelude.{◌≡◌, ◌+◌, ◌*◌, ◌^◌, ◌<◌, ◌≤◌, ◌↔◌, List, [], IfErr, IfOk, IsOk, IsTrue, MatchOption, OnErr, OnOk, drop, length, take};
+    ghost use Rattle.std.specs.Prelude.{◌≡◌, ◌+◌, ◌*◌, ◌^◌, ◌<◌, ◌≤◌, ◌↔◌, List, [], IfErr, IfOk, IfSome, IsNone, IsOk, IsTrue, MatchOption, OnErr, OnOk, drop, length, take};
     ghost use Rattle.mltl_base.specs.declared.limits.TheConstants.{MAX_MISSION, TIME_END};
     ghost use Rattle.arrayvec.specs.ArrayVec.{array_vec_len};
     ghost use Rattle.mltl_base.specs.declared.report.Style.{Style as Form};
@@ -297,6 +297,16 @@ impl Monitor {
     {
         let mut steps = Steps::<L>::start(blank);
         self.running.next(style, &mut self.cursor, &mut steps)
+    }
+
+    /// What `next` gives where that takes no search, as mostly: the report, or `None` where none is left. `None` of both, and no
+    /// change, where it takes one: then `next` tells. It looks at one output, and where it looks `far` also at those after it.
+    #[inline(always)]
+    pub fn next_at_once(&mut self, style: Style, far: bool) -> Option<Option<Report>>
+        ensures returns { IfSome result (λ told. ReturnsNext style told self.old self.new) }
+        ensures same { IsNone result → self.new ≡ self.old }
+    {
+        self.running.next_at_once(style, &mut self.cursor, far)
     }
 
     /// Writes the next reports of the last row, in a style, to the front of a slice, as many as there is room for, and returns

@@ -40,7 +40,7 @@ fn engines(alloc: Global, checked: &Checked) -> Result<(Bz, Ft, Pt, Outs), Alloc
 }
 
 impl Running {
-    ghost use Rattle.std.specs.Prelude.{◌≡◌, ◌+◌, ◌*◌, ◌<◌, ◌≤◌, ◌↔◌, List, [], length, take, IfOk, IsTrue};
+    ghost use Rattle.std.specs.Prelude.{◌≡◌, ◌+◌, ◌*◌, ◌<◌, ◌≤◌, ◌↔◌, List, [], length, take, IfOk, IfSome, IsNone, IsTrue};
     ghost use Rattle.mltl_base.specs.declared.limits.TheConstants.{MAX_MISSION};
     ghost use Rattle.mltl_base.specs.declared.report.Style.{Style as Form};
     ghost use Rattle.mltl_base.specs.Atoms.{Row};
@@ -142,6 +142,33 @@ impl Running {
             &self.pt,
             self.taken,
             steps,
+        )
+    }
+
+    /// What `next` gives where that takes no search: the cursor's stretch or its output tells which report is the first, and where
+    /// it looks `far` also an output after that. `None`, and no change, where they don't.
+    #[inline(always)]
+    pub fn next_at_once(
+        &mut self,
+        style: Style,
+        cursor: &mut Cursor,
+        far: bool,
+    ) -> Option<Option<Report>>
+        requires some { (rows : List Row) × HasTaken self.old rows }
+        requires early { self.old.taken ≤ MAX_MISSION }
+        requires cursor { ResumesAt self.old cursor.old }
+        ensures yields { IfSome result (λ told. YieldsNext style told self.old self.new) }
+        ensures cursor { ResumesAt self.new cursor.new }
+        ensures same { IsNone result → self.new ≡ self.old }
+    {
+        self.outs.next_at_once(
+            style,
+            cursor,
+            &self.checked,
+            &self.ft,
+            &self.pt,
+            &self.taken,
+            far,
         )
     }
 

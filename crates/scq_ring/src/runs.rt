@@ -1,6 +1,6 @@
 //! A ring of merged runs, and its slots.
 
-ghost use Rattle.std.specs.Prelude.{◌≡◌, ◌≢◌, ℕ, ◌+◌, ◌-◌, ◌^◌, ◌<◌, ◌≤◌, ◌⊎◌, max, length, List, nat_lt, if◌then◌else◌};
+ghost use Rattle.std.specs.Prelude.{◌≡◌, ◌≢◌, ℕ, ◌+◌, ◌-◌, ◌^◌, ◌<◌, ◌≤◌, ◌⊎◌, max, length, List, nat_lt, if◌then◌else◌, IfSome};
 ghost use Rattle.mltl_base.specs.declared.limits.TheConstants.{TIME_END};
 ghost use Rattle.scq_ring.specs.Runs.{Belongs, IsAround, IsClear, IsClosed, IsTurned, IsWritten, KeepsNewest, Shows, TakesRun, frontier_of, low_of, ring_index_of, runs_of, runs_to, upto_at, verdict_at};
 ghost use Rattle.scq_ring.specs.declared.runs.Slot.{Slot};
@@ -168,6 +168,24 @@ impl Ring {
         }
         let run = self.run_at(slots, from, near);
         Seen::Run(run.upto, run.value)
+    }
+
+    /// What a read shows where that takes no search: the newest run, or nothing at or past the frontier. `None` where time `from`
+    /// lies in a run before the newest one. It touches no slot.
+    #[inline(always)]
+    #[tactic(auto, unfolding(crate::specs::Runs::frontier_of, crate::specs::Runs::low_of))]
+    pub fn read_newest(&self, _slots: &[Slot], from: u64) -> Option<Seen>
+        requires belongs { Belongs self.now _slots.now }
+        requires kept { low_of self.now ≤ from }
+        ensures seen { IfSome result (Shows self.now _slots.now from) }
+    {
+        if self.frontier <= from {
+            Some(Seen::Nothing)
+        } else if self.since <= from {
+            Some(Seen::Run(self.frontier - 1, self.value))
+        } else {
+            None
+        }
     }
 
     /// Begins a run up to `upto` that has another verdict than the newest one.
