@@ -48,6 +48,7 @@ LARGEST = SIGNALS + 'DEFINE s := {' + members(181) + '};\n'
 NUMBERS = SIGNALS + 'DEFINE s := {' + members(128, '#') + '};\n'
 DIVISORS = SIGNALS + 'DEFINE s := {' + members(90, '1#') + '};\n'
 MIXED = SIGNALS + 'DEFINE s := {' + ', '.join(['p, !p'] * 57) + '};\n'
+SUMMANDS = SIGNALS + 'DEFINE s := {' + ', '.join(str(3 * k + 1) for k in range(80)) + '};\n'
 DEEPEST = 400
 DEEP = SIGNALS + 'STRUCT t0: { f: bool; };\n' + ''.join(
     'STRUCT t%d: { f: t%d; };\n' % (k + 1, k) for k in range(DEEPEST)) + 'DEFINE d0 := t0(p);\n' + ''.join(
@@ -140,6 +141,21 @@ def passed(number):
     return 'a%d:=foreach(v:s)(foreach(w:s)(%s%s));\n' % (number, body, last + ')' * 60)
 
 
+def passed_number(number):
+    """A definition over pairs of numbers, whose bodies divide by one after 60 quantifiers over one struct each."""
+    body, last = '', 'w'
+    for k in range(60):
+        body += 'foreach(v%d:{t(%s)})(' % (k, last)
+        last = 'v%d.a' % k
+    return 'a%d:=foreach(v:s)(foreach(w:s)(%sx/%s<x/v%s));\n' % (number, body, last, ')' * 60)
+
+
+def within_one_another(variables):
+    """Quantifiers over one set within one another, whose bodies compare the two innermost variables."""
+    head = ''.join('foreach(%s:s)(' % name for name in variables)
+    return 'a#:=%s%s<%s%s;\n' % (head, variables[-2], variables[-1], ')' * len(variables))
+
+
 def output_picks():
     """One output, over so many numbers and structs as its weight lets be, whose bodies are chains of picked fields."""
     structs = ''.join('e%d := t%d(d%d);\n' % (k, DEEPEST, DEEPEST - 1) for k in range(160))
@@ -173,6 +189,15 @@ TEXTS = [
            numbered('a#:=foreach(v:s)(foreach(w:s)(v<w));\n'), 'FTSPEC p;\n'),
     filled('divisor-pairs', 'the same, where the range of all numbers is no divisor, but each of them is', DIVISORS + 'DEFINE\n',
            numbered('a#:=foreach(v:s)(foreach(w:s)(x/v<x/w));\n'), 'FTSPEC p;\n'),
+    filled('sum-pairs', 'unused definitions over pairs of numbers, whose bodies divide by sums of which none is 0, though their '
+           'range has it', SUMMANDS + 'DEFINE\n', numbered('a#:=foreach(v:s)(foreach(w:s)(x/(v+w-100)<0));\n'), 'FTSPEC p;\n'),
+    filled('fives', 'unused definitions of six quantifiers over five numbers within one another',
+           SIGNALS + 'DEFINE s := {1,2,3,4,5};\n', numbered(within_one_another('abcdef')), 'FTSPEC p;\n'),
+    filled('twos', 'unused definitions of 14 quantifiers over two numbers within one another',
+           SIGNALS + 'DEFINE s := {1,2};\n', numbered(within_one_another('abcdefghijklmn')), 'FTSPEC p;\n'),
+    filled('struct-pairs', 'unused definitions over pairs of structs, which differ where bodies do not look',
+           SIGNALS + 'STRUCT t: { a: bool; b: int; };\nDEFINE\n' + ''.join('e%d:=t(p,%d);\n' % (k, k) for k in range(128))
+           + 's:={' + members(128, 'e#') + '};\n', numbered('a#:=foreach(v:s)(foreach(w:s)(v.a||w.a));\n'), 'FTSPEC p;\n'),
     filled('mixed-pairs', 'unused definitions over pairs of members that weigh one and two in turn', MIXED + 'DEFINE\n',
            numbered('a#:=foreach(v:s)(foreach(w:s)(v||w));\n'), 'FTSPEC p;\n'),
     filled('number-picks', 'chains of picked fields in bodies over pairs of numbers', DEEP,
@@ -184,6 +209,8 @@ TEXTS = [
            numbered('a#:=foreach(v:w)(foreach(z:w)(v%s||z%s));\n' % (('.f' * 231,) * 2)), 'FTSPEC p;\n'),
     filled('passed-picks', 'quantifiers over one struct each, within one over pairs of members of two kinds',
            MIXED + 'STRUCT t: { a: bool; };\nDEFINE\n', passed, 'FTSPEC p;\n'),
+    filled('passed-numbers', 'the same over pairs of numbers, whose bodies divide',
+           DIVISORS + 'STRUCT t: { a: int; };\nDEFINE\n', passed_number, 'FTSPEC p;\n'),
     Text('output-picks', 'such a chain in the 32,000 bodies of one output, in 25 KB', output_picks),
     filled('single', 'quantifiers over one member each, within one over pairs', LARGEST + 'DEFINE\n', chained, 'FTSPEC p;\n'),
     Text('nested-picks', '23 quantifiers within one another over picked fields', lambda: picked_within(23)),
