@@ -173,7 +173,9 @@ uint32_t r2u2_signals(const struct r2u2 *it);
 uint64_t r2u2_rows(const struct r2u2 *it);
 
 /* Returns the most steps of one row, from r2u2_row to the call that returns its last report: for each instruction of the three
- * parts, with the reads and writes of queues and boxes, each column, each output and each report. The program determines it. */
+ * parts, with the reads and writes of queues and boxes, each column, each output and each report. The program determines it.
+ * A call of r2u2_next may take three steps more than are counted here, since it looks at some outputs again; the calls that
+ * return many reports don't. */
 uint64_t r2u2_steps(const struct r2u2 *it);
 
 /* The most reports that one row brings, of all outputs together: between two rows r2u2_next gives no more, in either style.

@@ -163,7 +163,7 @@ pub fewer_left : (n : ℕ) (next_times : List ℕ) (k next : ℕ) → k < length
 fewer_left n next_times k next inside up within = omega (arith, sum_by-set (λ next_time. n - next_time) next_times k next 0 inside)
 
 -- the engines' part of the state
-pub taken_by : (program : Program) (rows : List Row) (engines : Engines) (next_times : List ℕ) → StandFor program rows engines.rows engines.ft.now engines.pt.now next_times → HaveTaken program rows engines
+pub taken_by : (program : Program) (rows : List Row) (engines : Engines) (next_times : List ℕ) → StandFor program rows engines.rows.now engines.ft.now engines.pt.now next_times → HaveTaken program rows engines
 taken_by program rows engines next_times stands = record { future = stands.future; past = stands.past; count = stands.count }
 
 -- what holds once the report of an output up to this time was given
@@ -194,7 +194,7 @@ tells style program rows next_times k last stretch placed first covers =
     }
 
 -- the same where a call gave the first open output, and another one the last time that its report covers
-pub told_by : (style : Style) (program : Program) (rows : List Row) (engines : Engines) (next_times : List ℕ) (k last : ℕ) (stretch : Stretch) → StandFor program rows engines.rows engines.ft.now engines.pt.now next_times
+pub told_by : (style : Style) (program : Program) (rows : List Row) (engines : Engines) (next_times : List ℕ) (k last : ℕ) (stretch : Stretch) → StandFor program rows engines.rows.now engines.ft.now engines.pt.now next_times
     → ((rows : List Row) → HaveTaken program rows engines → AreKnown program rows next_times → IsFirstOpen program rows next_times k stretch)
     → ((told : List Word) → IsLongestStretch told (slice_index next_times k) stretch.last stretch.word → Covers style told (slice_index next_times k) last stretch.word) → IsTold style program rows next_times k last stretch.word
 told_by style program rows engines next_times k last stretch stands finds covers =
@@ -206,7 +206,7 @@ pub record GoesOn (rows : List Row) (last : ℕ) (stretch : Stretch) : Type 0 wh
   pub later : last < stretch.last
   pub early : last + 1 < length rows
 
-pub goes_past : (style : Style) (program : Program) (rows : List Row) (engines : Engines) (next_times : List ℕ) (k last : ℕ) (stretch : Stretch) → StandFor program rows engines.rows engines.ft.now engines.pt.now next_times
+pub goes_past : (style : Style) (program : Program) (rows : List Row) (engines : Engines) (next_times : List ℕ) (k last : ℕ) (stretch : Stretch) → StandFor program rows engines.rows.now engines.ft.now engines.pt.now next_times
     → ((rows : List Row) → HaveTaken program rows engines → AreKnown program rows next_times → IsFirstOpen program rows next_times k stretch)
     → ((told : List Word) → IsLongestStretch told (slice_index next_times k) stretch.last stretch.word → Covers style told (slice_index next_times k) last stretch.word)
     → (output : Out) → slice_get program.outs k ≡ Some output → slice_get (known_words program rows output) (last + 1) ≡ Some stretch.word → GoesOn rows last stretch

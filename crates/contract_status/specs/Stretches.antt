@@ -25,13 +25,14 @@ use Rattle.contract_status.specs.Open.{known_counts_of}
 pub record HaveTaken (program : Program) (rows : List Row) (engines : Engines) : Type 0 where
   pub future : future.FtHasTaken program rows engines.ft.now
   pub past : past.PtHasTaken program rows engines.pt.now
-  pub count : length rows ≡ engines.rows
+  pub count : length rows ≡ engines.rows.now
 
 -- an instruction exists, and its verdicts can be read from this time on: of the past engine only those of the last row
 abbrev pub CanRead : Engines → engine.Engine → ℕ → ℕ → Type 0
 CanRead engines engine.TheVariants.Ft i from =
     (i < future.instruction_count engines.ft.now) × (future.lowest_at engines.ft.now i ≤ from)
-CanRead engines engine.TheVariants.Pt i from = (i < past.instruction_count engines.pt.now) × (engines.rows ≤ from + 1)
+CanRead engines engine.TheVariants.Pt i from =
+    (i < past.instruction_count engines.pt.now) × (engines.rows.now ≤ from + 1)
 
 -- so do those that an output reports
 abbrev pub CanReport : Engines → out.Out → ℕ → Type 0

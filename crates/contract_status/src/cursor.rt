@@ -59,7 +59,8 @@ impl Cursor {
         requires within { out + 1 < 2 ^ 64 }
         requires none { self.old.stretch ≡ None }
         requires covered { time ≤ stretch.last }
-        ensures here { time < stretch.last → (self.new.out ≡ out) × (self.new.stretch ≡ Some stretch) }
+        ensures here { time < stretch.last
+            → (self.new.out ≡ out) × (self.new.stretch ≡ Some stretch) }
         ensures past { time ≡ stretch.last → (self.new.out ≡ out + 1) × (self.new.stretch ≡ None) }
     {
         if time < stretch.last {

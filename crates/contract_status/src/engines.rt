@@ -1,13 +1,14 @@
 //! What both engines show of the outputs. These calls are inlined, so that a stretch stays in registers: through memory it
 //! would take longer than to find it.
 
-ghost use Rattle.std.specs.Prelude.{◌≡◌, ℕ, ◌+◌, ◌^◌, ◌<◌, ◌≤◌, true as holds, List, length, slice_get, slice_index, Some, Ok, IfErr, IfOk, IfSome, IsFalse, IsSome, IsTrue};
+ghost use Rattle.std.specs.Prelude.{◌≡◌, ℕ, ◌+◌, ◌^◌, ◌<◌, ◌≤◌, true as holds, List, length, slice_get, slice_index, Some, Ok, IfOk, IfSome, IsFalse, IsSome, IsTrue};
 ghost use Rattle.mltl_base.specs.Atoms.{Row};
 ghost use Rattle.mltl_base.specs.declared.program.Program.{Program as Observer};
 ghost use Rattle.mltl_base.specs.declared.program.Out.{Out as Output};
 ghost use Rattle.mltl_base.specs.declared.interval.Engine.TheVariants.{Ft as future, Pt as past};
 
 use crate::cursor::Cursor;
+use fixed_list::Fixed;
 use ft_engine::Ft;
 use mltl_base::steps::Steps;
 use mltl_base::{Engine, Out, Program, Style, Word};
@@ -20,7 +21,20 @@ use std::sync::ledger::Ledger;
 pub struct Engines<'a> {
     pub ft: &'a Ft,
     pub pt: &'a Pt,
-    pub rows: u64,
+    pub rows: &'a u64,
+}
+
+/// A way to look for the first report. Each looks from the cursor's output on.
+#[derive(Clone, Copy)]
+pub enum Look {
+    /// At the newest runs of formulas, up to the first contract.
+    Formulas,
+    /// At the newest runs of one contract.
+    Contract,
+    /// At the newest runs of all outputs.
+    All,
+    /// At the last two runs of one formula.
+    Older,
 }
 
 /// A word that an output has at all times from some time up to `last`, and not at the time after that.
@@ -48,8 +62,17 @@ impl Stretch {
     }
 }
 
+/// How to look on at an output whose newest run as a formula doesn't tell its word.
+#[inline(always)]
+fn look_after(out: &Out) -> Look {
+    match *out {
+        Out::Formula(_, _, _) => Look::Older,
+        Out::Contract(_, _, _, _) => Look::Contract,
+    }
+}
+
 impl Engines<'_> {
-    ghost use Rattle.contract_status.specs.Cursors.{FitsEngines, LooksOnward};
+    ghost use Rattle.contract_status.specs.Cursors.{FindsBy, FitsEngines, LooksOn, LooksOnward};
     ghost use Rattle.contract_status.specs.Stretches.{AreReadable, AreTold, CanRead, CanReport, FindsLast, FindsOpen, HaveTaken, IsLast, IsLongestStretch, IsNewest, ShowsVerdicts, ShowsWords, contract_words, formula_words, known_verdicts, known_words};
     ghost use Rattle.contract_status.specs.Open.{AreKnown};
     ghost use Rattle.contract_status.specs.declared.engines.Stretch.{Stretch as Found};
@@ -122,7 +145,7 @@ impl Engines<'_> {
         ensures newest { (program : Observer) (rows : List Row) → HaveTaken program rows self.now
             → IsNewest (known_verdicts program rows past i) result }
     {
-        if from < self.rows {
+        if from < *self.rows {
             Seen::Run(from, self.pt.now(i))
         } else {
             Seen::Nothing
@@ -264,6 +287,67 @@ impl Engines<'_> {
         }
     }
 
+    /// The word of an output that is a contract, where that takes no search.
+    #[inline(always)]
+    fn status_at_once(&self, out: &Out, from: u64) -> Option<Option<Stretch>>
+        requires readable { CanReport self.now out.now from }
+        ensures shows { (program : Observer) (rows : List Row) → HaveTaken program rows self.now
+            → from ≤ length (known_words program rows out.now)
+            → IfSome result (ShowsWords (known_words program rows out.now) from) }
+        ensures newest { (program : Observer) (rows : List Row) → HaveTaken program rows self.now
+            → IfSome result (IsLast (known_words program rows out.now)) }
+    {
+        match *out {
+            Out::Formula(_, _, _) => None,
+            Out::Contract(engine, i, j, _) => self.contract_by(false, engine, i, j, from),
+        }
+    }
+
+    /// The word of an output that is a future-time formula, where one of its last two runs tells it.
+    #[inline(always)]
+    fn formula_here(&self, out: &Out, from: u64) -> Option<Option<Stretch>>
+        requires readable { CanReport self.now out.now from }
+        ensures shows { (program : Observer) (rows : List Row) → HaveTaken program rows self.now
+            → from ≤ length (known_words program rows out.now)
+            → IfSome result (ShowsWords (known_words program rows out.now) from) }
+    {
+        match *out {
+            Out::Formula(Engine::Ft, i, _) => self.last_word(i, from),
+            _ => None,
+        }
+    }
+
+    /// The word of a future-time instruction, where one of its last two runs tells it.
+    #[inline(always)]
+    fn last_word(&self, i: u32, from: u64) -> Option<Option<Stretch>>
+        requires readable { CanRead self.now future i from }
+        ensures shows { (program : Observer) (rows : List Row) → HaveTaken program rows self.now
+            → IfSome result (ShowsWords (formula_words program rows future i) from) }
+    {
+        match self.last_verdict_of(i, from) {
+            None => None,
+            Some(Seen::Run(last, true)) => Some(Some(Stretch {
+                last,
+                word: Word::T,
+            })),
+            Some(Seen::Run(last, false)) => Some(Some(Stretch {
+                last,
+                word: Word::F,
+            })),
+            Some(Seen::Nothing) => Some(None),
+        }
+    }
+
+    /// The verdict of a future-time instruction, where one of its last two runs shows it.
+    #[inline(always)]
+    fn last_verdict_of(&self, i: u32, from: u64) -> Option<Seen>
+        requires readable { CanRead self.now future i from }
+        ensures shows { (program : Observer) (rows : List Row) → HaveTaken program rows self.now
+            → IfSome result (ShowsVerdicts (known_verdicts program rows future i) from) }
+    {
+        self.ft.last_from(i, from)
+    }
+
     /// The word of an output at a time, and the last time up to which it stays the same.
     #[inline(always)]
     fn stretch_from(&self, out: &Out, from: u64) -> Option<Stretch>
@@ -362,15 +446,16 @@ impl Engines<'_> {
         }
     }
 
-    /// What `first_open` gives where that takes no search, of the output `first` alone, if it is a formula: then the stretch is the last that is known of
-    /// it. Else an `Err` says where to search on.
+    /// What `first_open` gives where that takes no search, of the formulas from the output `first` on: then the stretch is the last
+    /// that is known of its output. Else an `Err` says where to look on, and how. Its steps are the outputs that it looks at.
     #[inline(always)]
-    fn first_at_once(
+    fn formulas_at_once<L: Ledger>(
         &self,
         program: &Program,
-        next_times: &[u64],
+        next_times: &Fixed<u64>,
         first: usize,
-    ) -> Result<Option<(usize, Stretch)>, usize>
+        steps: &mut Steps<L>,
+    ) -> Result<Option<(usize, Stretch)>, (usize, Look)>
         requires readable { AreReadable program.now self.now next_times.now }
         requires same_length { length next_times.now ≡ length program.now.outs }
         requires told { (rows : List Row) → HaveTaken program.now rows self.now
@@ -378,49 +463,15 @@ impl Engines<'_> {
             → AreTold program.now rows next_times.now first }
         ensures finds { (rows : List Row) → HaveTaken program.now rows self.now
             → AreKnown program.now rows next_times.now
-            → IfOk result (FindsOpen program.now rows next_times.now) }
+            → FindsBy program.now rows next_times.now result }
         ensures last { (rows : List Row) → HaveTaken program.now rows self.now
             → IfOk result (FindsLast program.now rows) }
-        ensures told { (rows : List Row) → HaveTaken program.now rows self.now
-            → AreKnown program.now rows next_times.now
-            → IfErr result (AreTold program.now rows next_times.now) }
-    {
-        if first >= program.outs.len() {
-            return Ok(None);
-        }
-        match self.formula_at_once(program.outs.get(first), next_times[first]) {
-            None => Err(first),
-            Some(Some(stretch)) => Ok(Some((first, stretch))),
-            Some(None) if first + 1 >= program.outs.len() => Ok(None),
-            Some(None) => Err(first + 1),
-        }
-    }
-
-    /// The same of the outputs from `first` on.
-    #[inline(always)]
-    fn onward_at_once(
-        &self,
-        program: &Program,
-        next_times: &[u64],
-        first: usize,
-    ) -> Result<Option<(usize, Stretch)>, usize>
-        requires readable { AreReadable program.now self.now next_times.now }
-        requires same_length { length next_times.now ≡ length program.now.outs }
-        requires told { (rows : List Row) → HaveTaken program.now rows self.now
-            → AreKnown program.now rows next_times.now
-            → AreTold program.now rows next_times.now first }
-        ensures finds { (rows : List Row) → HaveTaken program.now rows self.now
-            → AreKnown program.now rows next_times.now
-            → IfOk result (FindsOpen program.now rows next_times.now) }
-        ensures last { (rows : List Row) → HaveTaken program.now rows self.now
-            → IfOk result (FindsLast program.now rows) }
-        ensures told { (rows : List Row) → HaveTaken program.now rows self.now
-            → AreKnown program.now rows next_times.now
-            → IfErr result (AreTold program.now rows next_times.now) }
+        ensures counted { LooksOn (length next_times.now) first result steps.old steps.new }
     {
         for k in first..program.outs.len() {
-            match self.stretch_by(false, program.outs.get(k), next_times[k]) {
-                None => return Err(k),
+            steps.tick();
+            match self.formula_at_once(program.outs.get(k), next_times.as_slice()[k]) {
+                None => return Err((k, look_after(program.outs.get(k)))),
                 Some(Some(stretch)) => return Ok(Some((k, stretch))),
                 Some(None) => {}
             }
@@ -428,15 +479,15 @@ impl Engines<'_> {
         Ok(None)
     }
 
-    /// What `first_at_once` gives, or where it looks `far` what `onward_at_once` does.
+    /// The same of the output `first` alone, if it is a contract.
     #[inline(always)]
-    pub fn open_at_once(
+    fn contract_at_once<L: Ledger>(
         &self,
         program: &Program,
-        next_times: &[u64],
+        next_times: &Fixed<u64>,
         first: usize,
-        far: bool,
-    ) -> Result<Option<(usize, Stretch)>, usize>
+        steps: &mut Steps<L>,
+    ) -> Result<Option<(usize, Stretch)>, (usize, Look)>
         requires readable { AreReadable program.now self.now next_times.now }
         requires same_length { length next_times.now ≡ length program.now.outs }
         requires told { (rows : List Row) → HaveTaken program.now rows self.now
@@ -444,17 +495,111 @@ impl Engines<'_> {
             → AreTold program.now rows next_times.now first }
         ensures finds { (rows : List Row) → HaveTaken program.now rows self.now
             → AreKnown program.now rows next_times.now
-            → IfOk result (FindsOpen program.now rows next_times.now) }
+            → FindsBy program.now rows next_times.now result }
         ensures last { (rows : List Row) → HaveTaken program.now rows self.now
             → IfOk result (FindsLast program.now rows) }
-        ensures told { (rows : List Row) → HaveTaken program.now rows self.now
-            → AreKnown program.now rows next_times.now
-            → IfErr result (AreTold program.now rows next_times.now) }
+        ensures counted { LooksOn (length next_times.now) first result steps.old steps.new }
     {
-        if far {
-            self.onward_at_once(program, next_times, first)
-        } else {
-            self.first_at_once(program, next_times, first)
+        if first >= program.outs.len() {
+            return Ok(None);
+        }
+        steps.tick();
+        match self.status_at_once(program.outs.get(first), next_times.as_slice()[first]) {
+            None => Err((first, Look::Older)),
+            Some(Some(stretch)) => Ok(Some((first, stretch))),
+            Some(None) => Err((first + 1, Look::All)),
+        }
+    }
+
+    /// The same of all outputs from `first` on.
+    #[inline(always)]
+    fn onward_at_once<L: Ledger>(
+        &self,
+        program: &Program,
+        next_times: &Fixed<u64>,
+        first: usize,
+        steps: &mut Steps<L>,
+    ) -> Result<Option<(usize, Stretch)>, (usize, Look)>
+        requires readable { AreReadable program.now self.now next_times.now }
+        requires same_length { length next_times.now ≡ length program.now.outs }
+        requires told { (rows : List Row) → HaveTaken program.now rows self.now
+            → AreKnown program.now rows next_times.now
+            → AreTold program.now rows next_times.now first }
+        ensures finds { (rows : List Row) → HaveTaken program.now rows self.now
+            → AreKnown program.now rows next_times.now
+            → FindsBy program.now rows next_times.now result }
+        ensures last { (rows : List Row) → HaveTaken program.now rows self.now
+            → IfOk result (FindsLast program.now rows) }
+        ensures counted { LooksOn (length next_times.now) first result steps.old steps.new }
+    {
+        for k in first..program.outs.len() {
+            steps.tick();
+            match self.stretch_by(false, program.outs.get(k), next_times.as_slice()[k]) {
+                None => return Err((k, Look::Older)),
+                Some(Some(stretch)) => return Ok(Some((k, stretch))),
+                Some(None) => {}
+            }
+        }
+        Ok(None)
+    }
+
+    /// What `formulas_at_once`, `contract_at_once` or `onward_at_once` gives.
+    #[inline(always)]
+    pub fn open_at_once<L: Ledger>(
+        &self,
+        look: Look,
+        program: &Program,
+        next_times: &Fixed<u64>,
+        first: usize,
+        steps: &mut Steps<L>,
+    ) -> Result<Option<(usize, Stretch)>, (usize, Look)>
+        requires readable { AreReadable program.now self.now next_times.now }
+        requires same_length { length next_times.now ≡ length program.now.outs }
+        requires told { (rows : List Row) → HaveTaken program.now rows self.now
+            → AreKnown program.now rows next_times.now
+            → AreTold program.now rows next_times.now first }
+        ensures finds { (rows : List Row) → HaveTaken program.now rows self.now
+            → AreKnown program.now rows next_times.now
+            → FindsBy program.now rows next_times.now result }
+        ensures last { (rows : List Row) → HaveTaken program.now rows self.now
+            → IfOk result (FindsLast program.now rows) }
+        ensures counted { LooksOn (length next_times.now) first result steps.old steps.new }
+    {
+        match look {
+            Look::Formulas => self.formulas_at_once(program, next_times, first, steps),
+            Look::Contract => self.contract_at_once(program, next_times, first, steps),
+            _ => self.onward_at_once(program, next_times, first, steps),
+        }
+    }
+
+    /// What `first_open` gives, of the output `first` alone, if it is a formula. It reads the last two runs of that formula, so the
+    /// stretch may be the one before the last.
+    #[inline(always)]
+    pub fn open_here<L: Ledger>(
+        &self,
+        program: &Program,
+        next_times: &Fixed<u64>,
+        first: usize,
+        steps: &mut Steps<L>,
+    ) -> Result<Option<(usize, Stretch)>, (usize, Look)>
+        requires readable { AreReadable program.now self.now next_times.now }
+        requires same_length { length next_times.now ≡ length program.now.outs }
+        requires told { (rows : List Row) → HaveTaken program.now rows self.now
+            → AreKnown program.now rows next_times.now
+            → AreTold program.now rows next_times.now first }
+        ensures finds { (rows : List Row) → HaveTaken program.now rows self.now
+            → AreKnown program.now rows next_times.now
+            → FindsBy program.now rows next_times.now result }
+        ensures counted { LooksOn (length next_times.now) first result steps.old steps.new }
+    {
+        if first >= program.outs.len() {
+            return Ok(None);
+        }
+        steps.tick();
+        match self.formula_here(program.outs.get(first), next_times.as_slice()[first]) {
+            None => Err((first, Look::All)),
+            Some(Some(stretch)) => Ok(Some((first, stretch))),
+            Some(None) => Err((first + 1, Look::Formulas)),
         }
     }
 

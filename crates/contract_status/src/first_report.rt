@@ -1,21 +1,19 @@
 //! The first report that is open.
 
-ghost use Rattle.std.specs.Prelude.{◌≡◌, ◌+◌, ◌≤◌, ℕ, List, IfSome, IsNone, None, Some, length};
+ghost use Rattle.std.specs.Prelude.{◌≡◌, ◌+◌, ◌≤◌, List, IfOk, IfSome, IsNone, None, OnErr, Some, length};
 ghost use Rattle.mltl_base.specs.declared.limits.TheConstants.{MAX_MISSION};
 ghost use Rattle.mltl_base.specs.Atoms.{Row};
-ghost use Rattle.contract_status.specs.Cursors.{FitsCursor, FitsEngines, KeepsStretch, LooksOnward, MovesOn, outs_after};
+ghost use Rattle.contract_status.specs.Cursors.{FindsBy, FindsFirst, FitsEngines, KeepsStretch, MovesOn, SearchesBy, SearchesOn, outs_after};
 ghost use Rattle.contract_status.specs.Open.{AreKnown};
-ghost use Rattle.contract_status.specs.Standing.{EnginesStandFor, GivesNext, StandFor};
-ghost use Rattle.contract_status.specs.Stretches.{FindsLast, FindsOpen, HaveTaken, IsFirstOpen};
+ghost use Rattle.contract_status.specs.Standing.{EnginesStand, EnginesStandFor, GivesNext};
+ghost use Rattle.contract_status.specs.Stretches.{FindsLast, HaveTaken, IsFirstOpen};
 ghost use Rattle.contract_status.specs.declared.engines.Stretch.{Stretch as Found};
 
 use crate::cursor::Cursor;
-use crate::engines::{Engines, Stretch};
-use ft_engine::Ft;
+use crate::engines::{Engines, Look, Stretch};
 use mltl_base::steps::Steps;
 use mltl_base::{Report, Style};
 use obs_verify::Checked;
-use pt_boxes::Pt;
 use std::sync::ledger::Ledger;
 
 /// Gives the report of what a search found: of the first output that is open, of which the next time moves past the report.
@@ -30,24 +28,18 @@ fn tell_found(
     cursor: &mut Cursor,
     found: Option<(usize, Stretch)>,
 ) -> Option<Report>
-    requires early { engines.now.rows ≤ MAX_MISSION }
-    requires stands { (rows : List Row)
-        × EnginesStandFor checked.now rows engines.now next_times.old }
-    requires finds { (rows : List Row) → HaveTaken checked.now rows engines.now
-        → AreKnown checked.now rows next_times.old
-        → FindsOpen checked.now rows next_times.old found }
+    requires stands { EnginesStand checked.now engines.now next_times.old }
+    requires finds { FindsFirst checked.now engines.now next_times.old found }
     requires goes_on { (stretch : Found) → cursor.old.stretch ≡ Some stretch
         → found ≡ Some (cursor.old.out, stretch) }
-    ensures gives { GivesNext style checked.now engines.now.rows
+    ensures gives { GivesNext style checked.now engines.now.rows.now
         engines.now.ft.now engines.now.pt.now result next_times.old next_times.new }
     ensures cursor { FitsEngines checked.now engines.now next_times.new cursor.new }
-    ensures moves { MovesOn engines.now.rows (length next_times.old) result cursor.old cursor.new }
+    ensures moves { MovesOn engines.now.rows.now (length next_times.old)
+        result cursor.old cursor.new }
     ensures keeps { (rows : List Row) → EnginesStandFor checked.now rows engines.now next_times.old
         → IfSome result (λ report. KeepsStretch checked.now rows report cursor.new) }
-    ensures onward { (before after : ℕ)
-        → LooksOnward (length next_times.old) cursor.old.out found before after
-        → after + outs_after next_times.old cursor.new
-        ≤ before + outs_after next_times.old cursor.old + 1 }
+    ensures onward { SearchesOn next_times.old found cursor.old cursor.new }
 {
     let program = checked.program();
     match found {
@@ -58,7 +50,7 @@ fn tell_found(
         Some((k, stretch)) => {
             let time = stretch.last_covered(style, next_times[k]);
             next_times[k] = time + 1;
-            cursor.move_after(k, time, stretch, engines.rows);
+            cursor.move_after(k, time, stretch, *engines.rows);
             Some(Report {
                 out: k as u32,
                 time,
@@ -80,14 +72,15 @@ pub fn tell_first<L: Ledger>(
     cursor: &mut Cursor,
     steps: &mut Steps<L>,
 ) -> Option<Report>
-    requires early { engines.now.rows ≤ MAX_MISSION }
+    requires early { engines.now.rows.now ≤ MAX_MISSION }
     requires stands { (rows : List Row)
         × EnginesStandFor checked.now rows engines.now next_times.old }
     requires cursor { FitsEngines checked.now engines.now next_times.old cursor.old }
-    ensures gives { GivesNext style checked.now engines.now.rows
+    ensures gives { GivesNext style checked.now engines.now.rows.now
         engines.now.ft.now engines.now.pt.now result next_times.old next_times.new }
     ensures cursor { FitsEngines checked.now engines.now next_times.new cursor.new }
-    ensures moves { MovesOn engines.now.rows (length next_times.old) result cursor.old cursor.new }
+    ensures moves { MovesOn engines.now.rows.now (length next_times.old)
+        result cursor.old cursor.new }
     ensures keeps { (rows : List Row) → EnginesStandFor checked.now rows engines.now next_times.old
         → IfSome result (λ report. KeepsStretch checked.now rows report cursor.new) }
     ensures counted { steps.new + outs_after next_times.old cursor.new
@@ -110,18 +103,17 @@ fn tell_last(
     k: usize,
     stretch: Stretch,
 ) -> Report
-    requires early { engines.now.rows ≤ MAX_MISSION }
-    requires stands { (rows : List Row)
-        × EnginesStandFor checked.now rows engines.now next_times.old }
+    requires stands { EnginesStand checked.now engines.now next_times.old }
     requires finds { (rows : List Row) → HaveTaken checked.now rows engines.now
         → AreKnown checked.now rows next_times.old
         → IsFirstOpen checked.now rows next_times.old k stretch }
     requires last { (rows : List Row) → HaveTaken checked.now rows engines.now
         → FindsLast checked.now rows (Some (k, stretch)) }
     requires none { cursor.old.stretch ≡ None }
-    ensures gives { GivesNext style checked.now engines.now.rows
+    ensures gives { GivesNext style checked.now engines.now.rows.now
         engines.now.ft.now engines.now.pt.now (Some result) next_times.old next_times.new }
     ensures cursor { FitsEngines checked.now engines.now next_times.new cursor.new }
+    ensures onward { k ≤ cursor.new.out }
 {
     let _program = checked.program();
     let time = stretch.last_covered(style, next_times[k]);
@@ -136,7 +128,7 @@ fn tell_last(
 
 /// Gives the report of the stretch that the cursor has.
 #[inline(always)]
-fn tell_kept(
+fn tell_stretch(
     style: Style,
     checked: &Checked,
     engines: &Engines,
@@ -144,20 +136,19 @@ fn tell_kept(
     cursor: &mut Cursor,
     stretch: Stretch,
 ) -> Report
-    requires early { engines.now.rows ≤ MAX_MISSION }
-    requires stands { (rows : List Row)
-        × EnginesStandFor checked.now rows engines.now next_times.old }
+    requires stands { EnginesStand checked.now engines.now next_times.old }
     requires cursor { FitsEngines checked.now engines.now next_times.old cursor.old }
     requires kept { cursor.old.stretch ≡ Some stretch }
-    ensures gives { GivesNext style checked.now engines.now.rows
+    ensures gives { GivesNext style checked.now engines.now.rows.now
         engines.now.ft.now engines.now.pt.now (Some result) next_times.old next_times.new }
     ensures cursor { FitsEngines checked.now engines.now next_times.new cursor.new }
+    ensures onward { cursor.old.out ≤ cursor.new.out }
 {
     let _program = checked.program();
     let k = cursor.out;
     let time = stretch.last_covered(style, next_times[k]);
     next_times[k] = time + 1;
-    cursor.move_on(time, stretch.last, engines.rows);
+    cursor.move_on(time, stretch.last, *engines.rows);
     Report {
         out: k as u32,
         time,
@@ -165,71 +156,91 @@ fn tell_kept(
     }
 }
 
-/// What `tell_first` gives where that takes no search: the cursor's stretch or its output tells which report is the first, and where
-/// it looks `far` also an output after that. `None`, and no change but that of the cursor, where they don't.
+/// Gives the report of the stretch that the cursor has. `None`, and no change, where it has none.
 #[inline(always)]
-pub fn tell_at_once(
-    style: Style,
-    checked: &Checked,
-    ft: &Ft,
-    pt: &Pt,
-    n: &u64,
-    next_times: &mut [u64],
-    cursor: &mut Cursor,
-    far: bool,
-) -> Option<Option<Report>>
-    requires early { n.now ≤ MAX_MISSION }
-    requires stands { (rows : List Row) × StandFor checked.now rows n.now ft.now pt.now next_times.old }
-    requires cursor { FitsCursor checked.now n.now ft.now pt.now next_times.old cursor.old }
-    ensures gives { IfSome result (λ told.
-        GivesNext style checked.now n.now ft.now pt.now told next_times.old next_times.new) }
-    ensures cursor { FitsCursor checked.now n.now ft.now pt.now next_times.new cursor.new }
-    ensures same { IsNone result → next_times.new ≡ next_times.old }
-{
-    if let Some(stretch) = cursor.stretch {
-        let engines = Engines { ft, pt, rows: *n };
-        let told = tell_kept(style, checked, &engines, next_times, cursor, stretch);
-        return Some(Some(told));
-    }
-    look_at_once(
-        style,
-        checked,
-        &Engines { ft, pt, rows: *n },
-        next_times,
-        cursor,
-        far,
-    )
-}
-
-/// The same where the cursor has no stretch.
-#[inline(always)]
-fn look_at_once(
+pub fn tell_kept(
     style: Style,
     checked: &Checked,
     engines: &Engines,
     next_times: &mut [u64],
     cursor: &mut Cursor,
-    far: bool,
-) -> Option<Option<Report>>
-    requires early { engines.now.rows ≤ MAX_MISSION }
-    requires stands { (rows : List Row)
-        × EnginesStandFor checked.now rows engines.now next_times.old }
+) -> Option<Report>
+    requires stands { EnginesStand checked.now engines.now next_times.old }
     requires cursor { FitsEngines checked.now engines.now next_times.old cursor.old }
+    ensures gives { IfSome result (λ report. GivesNext style checked.now engines.now.rows.now
+        engines.now.ft.now engines.now.pt.now (Some report) next_times.old next_times.new) }
+    ensures cursor { FitsEngines checked.now engines.now next_times.new cursor.new }
+    ensures onward { cursor.old.out ≤ cursor.new.out }
+    ensures same { IsNone result → (next_times.new ≡ next_times.old) × (cursor.new ≡ cursor.old) }
+{
+    match cursor.stretch {
+        None => None,
+        Some(stretch) => Some(tell_stretch(style, checked, engines, next_times, cursor, stretch)),
+    }
+}
+
+/// Gives the report of what a look at newest runs found. Where it found none that is the first, an `Err` says how to look on, and
+/// nothing but the cursor changes.
+#[inline(always)]
+pub fn tell_newest(
+    style: Style,
+    checked: &Checked,
+    engines: &Engines,
+    next_times: &mut [u64],
+    cursor: &mut Cursor,
+    found: Result<Option<(usize, Stretch)>, (usize, Look)>,
+) -> Result<Option<Report>, Look>
+    requires stands { EnginesStand checked.now engines.now next_times.old }
+    requires finds { (rows : List Row) → HaveTaken checked.now rows engines.now
+        → AreKnown checked.now rows next_times.old → FindsBy checked.now rows next_times.old found }
+    requires last { (rows : List Row) → HaveTaken checked.now rows engines.now
+        → IfOk found (FindsLast checked.now rows) }
     requires none { cursor.old.stretch ≡ None }
-    ensures gives { IfSome result (λ told. GivesNext style checked.now engines.now.rows
+    ensures gives { IfOk result (λ told. GivesNext style checked.now engines.now.rows.now
         engines.now.ft.now engines.now.pt.now told next_times.old next_times.new) }
     ensures cursor { FitsEngines checked.now engines.now next_times.new cursor.new }
-    ensures same { IsNone result → next_times.new ≡ next_times.old }
+    ensures same { OnErr result (next_times.new ≡ next_times.old) }
+    ensures onward { SearchesBy next_times.old found cursor.old cursor.new }
 {
-    match engines.open_at_once(checked.program(), next_times, cursor.out, far) {
-        Err(next) => {
+    match found {
+        Err((next, look)) => {
             cursor.out = next;
-            None
+            Err(look)
         }
-        Ok(None) => Some(tell_found(style, checked, engines, next_times, cursor, None)),
-        Ok(Some((k, stretch))) => {
-            let told = tell_last(style, checked, engines, next_times, cursor, k, stretch);
-            Some(Some(told))
+        Ok(open) => match open {
+            None => Ok(tell_found(style, checked, engines, next_times, cursor, open)),
+            Some((k, stretch)) => Ok(Some(tell_last(
+                style, checked, engines, next_times, cursor, k, stretch,
+            ))),
+        },
+    }
+}
+
+/// The same of a look at the last two runs of one formula.
+#[inline(always)]
+pub fn tell_older(
+    style: Style,
+    checked: &Checked,
+    engines: &Engines,
+    next_times: &mut [u64],
+    cursor: &mut Cursor,
+    found: Result<Option<(usize, Stretch)>, (usize, Look)>,
+) -> Result<Option<Report>, Look>
+    requires stands { EnginesStand checked.now engines.now next_times.old }
+    requires finds { (rows : List Row) → HaveTaken checked.now rows engines.now
+        → AreKnown checked.now rows next_times.old → FindsBy checked.now rows next_times.old found }
+    requires none { cursor.old.stretch ≡ None }
+    ensures gives { IfOk result (λ told. GivesNext style checked.now engines.now.rows.now
+        engines.now.ft.now engines.now.pt.now told next_times.old next_times.new) }
+    ensures cursor { FitsEngines checked.now engines.now next_times.new cursor.new }
+    ensures same { OnErr result (next_times.new ≡ next_times.old) }
+    ensures onward { SearchesBy next_times.old found cursor.old cursor.new }
+{
+    match found {
+        Err((next, look)) => {
+            cursor.out = next;
+            Err(look)
         }
+        Ok(open) => Ok(tell_found(style, checked, engines, next_times, cursor, open)),
     }
 }

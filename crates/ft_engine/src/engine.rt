@@ -150,4 +150,16 @@ impl Ft {
         let queue = operand(self.queues.as_slice(), self.slab.as_slice(), i);
         queue.ring.read_newest(queue.slots, from)
     }
+
+    /// What `run_from` shows where that is one of the last two runs, or nothing at or past the frontier. `None` where time `from` lies
+    /// in a run before these. It calls nothing.
+    #[inline(always)]
+    pub fn last_from(&self, i: u32, from: u64) -> Option<Seen>
+        requires exists { i < instruction_count self.now }
+        requires kept { lowest_at self.now i ≤ from }
+        ensures shows { IfSome result (ShowsFrom self.now i from) }
+    {
+        let queue = operand(self.queues.as_slice(), self.slab.as_slice(), i);
+        queue.ring.read_last(queue.slots, from)
+    }
 }

@@ -16,10 +16,10 @@ use crate::codes::{
 use crate::fault::Fault;
 use crate::handle::Handle;
 use crate::opened::{OpeningFault, open_monitor, open_under};
-use crate::report::{Told, next_at_once_of, next_of};
+use crate::report::{Told, next_at_once_of, next_kept_of, next_of};
 use crate::row_why::RowWhy;
 use mltl_base::Report;
-use r2u2_monitor::{Monitor, RowFault};
+use r2u2_monitor::{Look, Monitor, RowFault};
 use std::alloc::Global;
 
 /// Opens the program that these bytes spell. Rows have the columns that it was compiled for.
@@ -140,58 +140,102 @@ pub extern "C" fn r2u2_next(it: &mut R2u2, alloc: Global, runs: u32, report: &mu
 {
     match it.handle.take(alloc) {
         None => NOT_OPEN,
-        Some(monitor) => next_in(&mut it.handle, monitor, runs, report),
+        Some(monitor) => next_in(&mut it.handle, runs, report, monitor),
     }
 }
 
-/// Gives the next report of a monitor that was taken out, and puts it back. Where that takes no search it calls nothing, so it
-/// needs no stack.
+/// Gives the next report of a monitor that was taken out, and puts it back. Where an earlier call found more than it gave it ends
+/// here, and else by a jump. Only the last of the calls that it may jump to calls anything.
 #[inline(always)]
-fn next_in(handle: &mut Handle, monitor: Box<Monitor>, runs: u32, report: &mut Told) -> u32
+fn next_in(handle: &mut Handle, runs: u32, report: &mut Told, monitor: Box<Monitor>) -> u32
     requires empty { handle.old.value ≡ None }
     ensures { AnswersNext (style_of runs) result
         report.old report.new monitor.value handle.new.value }
 {
     let mut monitor = monitor;
-    match next_at_once_of(&mut monitor, runs, false) {
-        None => onward_in(handle, monitor, runs, report),
-        Some(told) => answer(handle, monitor, told, report),
+    match next_kept_of(&mut monitor, runs) {
+        None => formulas_in(handle, runs, report, monitor),
+        Some(told) => answer(handle, report, monitor, Some(told)),
     }
 }
 
-/// The same with a look at all outputs from the next one on. It stays out of line, and calls nothing where no queue is searched.
+/// The same by a look at the newest runs of formulas. It calls nothing, so it needs no stack.
 #[inline(never)]
-fn onward_in(handle: &mut Handle, monitor: Box<Monitor>, runs: u32, report: &mut Told) -> u32
+fn formulas_in(handle: &mut Handle, runs: u32, report: &mut Told, monitor: Box<Monitor>) -> u32
     requires empty { handle.old.value ≡ None }
     ensures { AnswersNext (style_of runs) result
         report.old report.new monitor.value handle.new.value }
 {
     let mut monitor = monitor;
-    match next_at_once_of(&mut monitor, runs, true) {
-        None => search_in(handle, monitor, runs, report),
-        Some(told) => answer(handle, monitor, told, report),
+    match next_at_once_of(&mut monitor, Look::Formulas, runs) {
+        Ok(told) => answer(handle, report, monitor, told),
+        Err(Look::Contract) => contract_in(handle, runs, report, monitor),
+        Err(_) => older_in(handle, runs, report, monitor),
     }
 }
 
-/// The same by a search of a queue.
+/// The same by a look at the newest runs of a contract.
 #[inline(never)]
-fn search_in(handle: &mut Handle, monitor: Box<Monitor>, runs: u32, report: &mut Told) -> u32
+fn contract_in(handle: &mut Handle, runs: u32, report: &mut Told, monitor: Box<Monitor>) -> u32
+    requires empty { handle.old.value ≡ None }
+    ensures { AnswersNext (style_of runs) result
+        report.old report.new monitor.value handle.new.value }
+{
+    let mut monitor = monitor;
+    match next_at_once_of(&mut monitor, Look::Contract, runs) {
+        Ok(told) => answer(handle, report, monitor, told),
+        Err(Look::All) => onward_in(handle, runs, report, monitor),
+        Err(_) => search_in(handle, runs, report, monitor),
+    }
+}
+
+/// The same by a look at the newest runs of all outputs from the next one on.
+#[inline(never)]
+fn onward_in(handle: &mut Handle, runs: u32, report: &mut Told, monitor: Box<Monitor>) -> u32
+    requires empty { handle.old.value ≡ None }
+    ensures { AnswersNext (style_of runs) result
+        report.old report.new monitor.value handle.new.value }
+{
+    let mut monitor = monitor;
+    match next_at_once_of(&mut monitor, Look::All, runs) {
+        Ok(told) => answer(handle, report, monitor, told),
+        Err(_) => search_in(handle, runs, report, monitor),
+    }
+}
+
+/// The same by a search of one formula's runs.
+#[inline(never)]
+fn older_in(handle: &mut Handle, runs: u32, report: &mut Told, monitor: Box<Monitor>) -> u32
+    requires empty { handle.old.value ≡ None }
+    ensures { AnswersNext (style_of runs) result
+        report.old report.new monitor.value handle.new.value }
+{
+    let mut monitor = monitor;
+    match next_at_once_of(&mut monitor, Look::Older, runs) {
+        Ok(told) => answer(handle, report, monitor, told),
+        Err(_) => search_in(handle, runs, report, monitor),
+    }
+}
+
+/// The same by a search of all outputs' runs.
+#[inline(never)]
+fn search_in(handle: &mut Handle, runs: u32, report: &mut Told, monitor: Box<Monitor>) -> u32
     requires empty { handle.old.value ≡ None }
     ensures { AnswersNext (style_of runs) result
         report.old report.new monitor.value handle.new.value }
 {
     let mut monitor = monitor;
     let told = next_of(&mut monitor, runs);
-    answer(handle, monitor, told, report)
+    answer(handle, report, monitor, told)
 }
 
 /// Puts a monitor back, and shows C the report that it gave, if it gave one.
 #[inline(always)]
 fn answer(
     handle: &mut Handle,
+    report: &mut Told,
     monitor: Box<Monitor>,
     told: Option<Report>,
-    report: &mut Told,
 ) -> u32
     requires empty { handle.old.value ≡ None }
     ensures back { handle.new.value ≡ Some monitor.value }

@@ -80,12 +80,15 @@ impl Handle {
         requires empty { self.old.value ≡ None }
         ensures { self.new.value ≡ Some monitor.value }
     {
-        let alloc = *Box::allocator(&monitor);
-        let old = mem::replace(self, Handle::with(monitor));
-        match old.into_box(alloc) {
-            None => {}
-            Some(_) => unreachable!(),
-        }
+        mem::replace(self, Handle::with(monitor)).let_go();
+    }
+
+    /// Lets a handle go at which none is open. That none is, is proved, so nothing tests it.
+    #[inline(always)]
+    fn let_go(self)
+        requires empty { self.value ≡ None }
+    {
+        let Handle { at: _ } = self;
     }
 
     /// A monitor, which it owns from now on.

@@ -6,7 +6,7 @@ use crate::row_fault::RowFault;
 use crate::running::Running;
 use crate::unfit::unfit_column;
 use arrayvec::ArrayVec;
-use contract_status::{Cursor, line_of};
+use contract_status::{Cursor, Look, line_of};
 use fixed_list::Fixed;
 use mltl_base::limits::MAX_MISSION;
 use mltl_base::steps::Steps;
@@ -48,7 +48,7 @@ impl Model for Monitor {
 }
 
 impl Monitor {
-    ghost use Rattle.std.specs.Prelude.{◌≡◌, ◌+◌, ◌*◌, ◌^◌, ◌<◌, ◌≤◌, ◌↔◌, List, [], IfErr, IfOk, IfSome, IsNone, IsOk, IsTrue, MatchOption, OnErr, OnOk, drop, length, take};
+    ghost use Rattle.std.specs.Prelude.{◌≡◌, ◌+◌, ◌*◌, ◌^◌, ◌<◌, ◌≤◌, ◌↔◌, List, [], IfErr, IfOk, IfSome, IsNone, IsOk, IsTrue, MatchOption, OnErr, OnOk, Some, drop, length, take};
     ghost use Rattle.mltl_base.specs.declared.limits.TheConstants.{MAX_MISSION, TIME_END};
     ghost use Rattle.arrayvec.specs.ArrayVec.{array_vec_len};
     ghost use Rattle.mltl_base.specs.declared.report.Style.{Style as Form};
@@ -299,14 +299,42 @@ impl Monitor {
         self.running.next(style, &mut self.cursor, &mut steps)
     }
 
-    /// What `next` gives where that takes no search, as mostly: the report, or `None` where none is left. `None` of both, and no
-    /// change, where it takes one: then `next` tells. It looks at one output, and where it looks `far` also at those after it.
+    /// What `next` gives where an earlier call found more than it gave. `None`, and no change, where it didn't.
     #[inline(always)]
-    pub fn next_at_once(&mut self, style: Style, far: bool) -> Option<Option<Report>>
-        ensures returns { IfSome result (λ told. ReturnsNext style told self.old self.new) }
+    pub fn next_kept(&mut self, style: Style) -> Option<Report>
+        ensures returns { IfSome result (λ report.
+            ReturnsNext style (Some report) self.old self.new) }
         ensures same { IsNone result → self.new ≡ self.old }
     {
-        self.running.next_at_once(style, &mut self.cursor, far)
+        self.running.next_kept(style, &mut self.cursor)
+    }
+
+    /// What `next` gives where the look tells it. Else an `Err` says how to look on, and nothing changes: `next` tells in any case.
+    #[inline(always)]
+    pub fn next_at_once(&mut self, look: Look, style: Style) -> Result<Option<Report>, Look>
+        ensures returns { IfOk result (λ told. ReturnsNext style told self.old self.new) }
+        ensures same { OnErr result (self.new ≡ self.old) }
+    {
+        self.next_at_once_alone::<Brand>(look, style, Blank::new(1))
+    }
+
+    /// The same with a separate counter.
+    #[inline(always)]
+    fn next_at_once_alone<L: Ledger>(
+        &mut self,
+        look: Look,
+        style: Style,
+        blank: Blank,
+    ) -> Result<Option<Report>, Look>
+        requires name { blank.name ≡ L.name }
+        requires parts { blank.parts ≡ L.parts }
+        requires some_parts { 0 < blank.parts }
+        ensures returns { IfOk result (λ told. ReturnsNext style told self.old self.new) }
+        ensures same { OnErr result (self.new ≡ self.old) }
+    {
+        let mut steps = Steps::<L>::start(blank);
+        self.running
+            .next_at_once(look, style, &mut self.cursor, &mut steps)
     }
 
     /// Writes the next reports of the last row, in a style, to the front of a slice, as many as there is room for, and returns

@@ -354,7 +354,8 @@ impl Monitor {
         unsafe { r2u2_delay(&raw mut self.it, output) }
     }
 
-    /// Returns the most steps of one row, from taking it to its last report.
+    /// Returns the most steps of one row, from taking it to its last report. A call that asks for one report may take three
+    /// more.
     #[must_use]
     pub fn steps(&self) -> u64 {
         // SAFETY: as above.

@@ -24,63 +24,63 @@ returns-in-None-clause-cursor c =
 
 pub offset_bounds-next_times-k : goal.offset_bounds-next_times-k
 offset_bounds-next_times-k c =
-    let program = c.args.checked.now in let engines = c.args.engines.now in let next_times = c.args.next_times.now in let stands = c.requires.stands in
+    let program = c.args.checked.now in let engines = c.args.engines.now in let next_times = c.args.next_times.now in let stands = c.requires.stands.1 in
     let finds = first_found c.args.checked.now c.args.engines.now c.args.next_times.now c.args.found c.in-Some.k c.in-Some.stretch c.in-Some.is c.requires.finds in
     let first = finds stands.0 (taken_by program stands.0 engines next_times stands.1) stands.1.placed.known in
     record { fits = omega (arith, c.program-program.ensures.layout.few_outs, slice_get_within program.outs c.in-Some.k first.output first.there) }
 
 pub bounds-next_times-k : goal.bounds-next_times-k
 bounds-next_times-k c =
-    let program = c.args.checked.now in let engines = c.args.engines.now in let next_times = c.args.next_times.now in let stands = c.requires.stands in
+    let program = c.args.checked.now in let engines = c.args.engines.now in let next_times = c.args.next_times.now in let stands = c.requires.stands.1 in
     let finds = first_found c.args.checked.now c.args.engines.now c.args.next_times.now c.args.found c.in-Some.k c.in-Some.stretch c.in-Some.is c.requires.finds in
     let first = finds stands.0 (taken_by program stands.0 engines next_times stands.1) stands.1.placed.known in
     omega (arith, stands.1.placed.count, slice_get_within program.outs c.in-Some.k first.output first.there)
 
 pub overflow_add-next_times : goal.overflow_add-next_times
 overflow_add-next_times c =
-    let stands = c.requires.stands in
+    let stands = c.requires.stands.1 in
     let finds = first_found c.args.checked.now c.args.engines.now c.args.next_times.now c.args.found c.in-Some.k c.in-Some.stretch c.in-Some.is c.requires.finds in
     let told = told_by c.args.style c.args.checked.now stands.0 c.args.engines.now c.args.next_times.now c.in-Some.k c.last_covered-time.result c.in-Some.stretch stands.1 finds c.last_covered-time.ensures.covers in
-    record { fits = omega (arith, told.early, stands.1.count, c.requires.early) }
+    record { fits = omega (arith, told.early, stands.1.count, c.requires.stands.0) }
 
 pub offset_bounds-next_times-k-in-Some : goal.offset_bounds-next_times-k-in-Some
 offset_bounds-next_times-k-in-Some c =
-    let stands = c.requires.stands in
+    let stands = c.requires.stands.1 in
     let finds = first_found c.args.checked.now c.args.engines.now c.args.next_times.now c.args.found c.in-Some.k c.in-Some.stretch c.in-Some.is c.requires.finds in
     let told = told_by c.args.style c.args.checked.now stands.0 c.args.engines.now c.args.next_times.now c.in-Some.k c.last_covered-time.result c.in-Some.stretch stands.1 finds c.last_covered-time.ensures.covers in
     record { fits = omega (arith, c.program-program.ensures.layout.few_outs, told.exists) }
 
 pub bounds-next_times-k-in-Some : goal.bounds-next_times-k-in-Some
 bounds-next_times-k-in-Some c =
-    let stands = c.requires.stands in
+    let stands = c.requires.stands.1 in
     let finds = first_found c.args.checked.now c.args.engines.now c.args.next_times.now c.args.found c.in-Some.k c.in-Some.stretch c.in-Some.is c.requires.finds in
     let told = told_by c.args.style c.args.checked.now stands.0 c.args.engines.now c.args.next_times.now c.in-Some.k c.last_covered-time.result c.in-Some.stretch stands.1 finds c.last_covered-time.ensures.covers in
     told.inside
 
 pub overflow_cast-result : goal.overflow_cast-result
 overflow_cast-result c =
-    let stands = c.requires.stands in
+    let stands = c.requires.stands.1 in
     let finds = first_found c.args.checked.now c.args.engines.now c.args.next_times.now c.args.found c.in-Some.k c.in-Some.stretch c.in-Some.is c.requires.finds in
     let told = told_by c.args.style c.args.checked.now stands.0 c.args.engines.now c.args.next_times.now c.in-Some.k c.last_covered-time.result c.in-Some.stretch stands.1 finds c.last_covered-time.ensures.covers in
     record { fits = omega (arith, c.program-program.ensures.layout.few_outs, told.exists) }
 
 pub move_after-requires-clause-within : goal.move_after-requires-clause-within
 move_after-requires-clause-within c =
-    let stands = c.requires.stands in
+    let stands = c.requires.stands.1 in
     let finds = first_found c.args.checked.now c.args.engines.now c.args.next_times.now c.args.found c.in-Some.k c.in-Some.stretch c.in-Some.is c.requires.finds in
     let told = told_by c.args.style c.args.checked.now stands.0 c.args.engines.now c.args.next_times.now c.in-Some.k c.last_covered-time.result c.in-Some.stretch stands.1 finds c.last_covered-time.ensures.covers in
     omega (arith, c.program-program.ensures.layout.few_outs, told.exists)
 
 pub move_after-requires-clause-early : goal.move_after-requires-clause-early
 move_after-requires-clause-early c =
-    let stands = c.requires.stands in
+    let stands = c.requires.stands.1 in
     let finds = first_found c.args.checked.now c.args.engines.now c.args.next_times.now c.args.found c.in-Some.k c.in-Some.stretch c.in-Some.is c.requires.finds in
     let told = told_by c.args.style c.args.checked.now stands.0 c.args.engines.now c.args.next_times.now c.in-Some.k c.last_covered-time.result c.in-Some.stretch stands.1 finds c.last_covered-time.ensures.covers in
     omega (arith, told.early, stands.1.count)
 
 pub returns-in-Some-clause-gives : goal.returns-in-Some-clause-gives
 returns-in-Some-clause-gives c =
-    let program = c.args.checked.now in let engines = c.args.engines.now in let next_times = c.args.next_times.now in let stands = c.requires.stands in let k = c.in-Some.k in let time = c.last_covered-time.result in
+    let program = c.args.checked.now in let engines = c.args.engines.now in let next_times = c.args.next_times.now in let stands = c.requires.stands.1 in let k = c.in-Some.k in let time = c.last_covered-time.result in
     let finds = first_found c.args.checked.now c.args.engines.now c.args.next_times.now c.args.found c.in-Some.k c.in-Some.stretch c.in-Some.is c.requires.finds in
     let told = told_by c.args.style program stands.0 engines next_times k time c.in-Some.stretch stands.1 finds c.last_covered-time.ensures.covers in
     record {
@@ -91,13 +91,13 @@ returns-in-Some-clause-gives c =
         exists = told.exists;
         taken = omega (arith, told.early, stands.1.count);
         moved = refl;
-        fewer = fewer_left engines.rows next_times k (time + 1) told.inside (omega (arith, told.upward)) (omega (arith, told.early, stands.1.count));
+        fewer = fewer_left engines.rows.now next_times k (time + 1) told.inside (omega (arith, told.upward)) (omega (arith, told.early, stands.1.count));
       };
     }
 
 pub returns-in-Some-clause-cursor : goal.returns-in-Some-clause-cursor
 returns-in-Some-clause-cursor c =
-    let program = c.args.checked.now in let next_times = c.args.next_times.now in let stands = c.requires.stands in let k = c.in-Some.k in let time = c.last_covered-time.result in
+    let program = c.args.checked.now in let next_times = c.args.next_times.now in let stands = c.requires.stands.1 in let k = c.in-Some.k in let time = c.last_covered-time.result in
     let finds = first_found c.args.checked.now c.args.engines.now c.args.next_times.now c.args.found c.in-Some.k c.in-Some.stretch c.in-Some.is c.requires.finds in
     let told = told_by c.args.style program stands.0 c.args.engines.now next_times k time c.in-Some.stretch stands.1 finds c.last_covered-time.ensures.covers in
     λ rows taken known.

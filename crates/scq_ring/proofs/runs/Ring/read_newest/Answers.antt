@@ -1,4 +1,4 @@
-use Rattle.std.proofs.Common.{◌≡◌, ◌-◌, ◌<◌, ◌≤◌, arith}
+use Rattle.std.proofs.Common.{arith}
 use Rattle.scq_ring.specs.Runs.{frontier_of}
 use Rattle.scq_ring.proofs.RunLemmas.{verdict_newest}
 use Rattle.scq_ring.proofs.runs.Ring.read_newest.Goals as goal
