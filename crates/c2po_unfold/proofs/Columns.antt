@@ -16,8 +16,8 @@ use Rattle.c2po_unfold.specs.Environment.{Env, fields_in, value_in}
 use Rattle.c2po_unfold.specs.Holding.{Holds}
 use Rattle.c2po_unfold.specs.Resolving.{Agree, AreRows, ArePicked, HasPart, IsBound, IsFree, IsPlace, IsResolved, LeadsTo, resolved_value}
 use Rattle.c2po_unfold.specs.declared.scope.Scope.{Scope}
-use Rattle.c2po_unfold.specs.Covering.{Mode}
-use Rattle.c2po_unfold.specs.Scopes.{Meets, names_of}
+use Rattle.c2po_unfold.specs.Cases.{Case}
+use Rattle.c2po_unfold.specs.Scopes.{MeetsIn, names_of}
 use Rattle.c2po_unfold.proofs.Later.{fits_agree}
 use Rattle.c2po_unfold.specs.Values.{Value, picked}
 use Rattle.c2po_unfold.proofs.Parts.{held_part_some}
@@ -49,15 +49,15 @@ leads_holds (Joined' op y p a q e) u base env xs x s t h agree k = absurd h
 leads_holds (Counted' op m y p a q e) u base env xs x s t h agree k = absurd h
 
 -- a column's variable is there
-pub column_bound : (m : Mode) (u : Unfolding) (base : Env) (scope : Scope) (env : Env) (d e : Resolved) (p : _) (x : List ℕ) (rows : Vec Row Global) →
-    Meets m u base scope env d → d ≡ Column' p e x rows → IsBound (names_of scope) x
+pub column_bound : (m : Case) (u : Unfolding) (base : Env) (scope : Scope) (env : Env) (d e : Resolved) (p : _) (x : List ℕ) (rows : Vec Row Global) →
+    MeetsIn m u base scope env d → d ≡ Column' p e x rows → IsBound (names_of scope) x
 column_bound m u base scope env d e p x rows h is =
     let g = subst (IsResolved u base (names_of scope)) is h.resolved in
     g.1
 
 -- what a column has for the variable's value is the expression's value
-pub column_holds : (m : Mode) (u : Unfolding) (base : Env) (scope : Scope) (env : Env) (d e : Resolved) (p : _) (x : List ℕ) (rows : Vec Row Global) (ys : List Row) (t : Stored) →
-    Meets m u base scope env d → d ≡ Column' p e x rows → ys ≡ rows.items →
+pub column_holds : (m : Case) (u : Unfolding) (base : Env) (scope : Scope) (env : Env) (d e : Resolved) (p : _) (x : List ℕ) (rows : Vec Row Global) (ys : List Row) (t : Stored) →
+    MeetsIn m u base scope env d → d ≡ Column' p e x rows → ys ≡ rows.items →
     (r : Row) × (i : ℕ) × (slice_get ys i ≡ Some r) × Holds u r.member (value_in (env x)) × (t ≡ r.found) → Holds u t (resolved_value d env)
 column_holds m u base scope env d e p x rows ys t h is same k =
     let g = subst (IsResolved u base (names_of scope)) is h.resolved in

@@ -10,7 +10,7 @@ use Rattle.c2po_unfold.specs.declared.resolved.Resolved.{Resolved, Row_of-Resolv
 use Rattle.c2po_unfold.specs.declared.resolved.Resolved.{Number, Truth, Known as Known', Found', Variable, Build', Group', Part'}
 use Rattle.c2po_unfold.specs.declared.resolved.Resolved.{Column', Unary', Binary', Joined', Counted'}
 use Rattle.c2po_unfold.specs.declared.resolved.Row.{Row}
-use Rattle.c2po_unfold.specs.declared.scope.Scope.{Scope, Top, Open', Held', Covered'}
+use Rattle.c2po_unfold.specs.declared.scope.Scope.{Scope, Top, Open', Held', Covered', Varied'}
 use Rattle.c2po_unfold.specs.declared.scope.Head.{Head}
 use Rattle.c2po_unfold.specs.declared.scope.Head.TheVariants as head
 use Rattle.c2po_unfold.specs.declared.unfolding.Unfolding.{Unfolding}
@@ -21,7 +21,8 @@ use Rattle.c2po_unfold.specs.Values.{Value, Values, leaf, leaf_tree, structure, 
 use Rattle.c2po_unfold.specs.Environment.{Env, Known}
 use Rattle.c2po_unfold.specs.Holding.{Holds, HoldAll, Means, StandsFor, Keeps, IsLater}
 use Rattle.c2po_unfold.specs.Resolving.{Agree, AllResolved, AreResolved, AreRows, HasPart, IsResolved, LeadsTo, resolved_value}
-use Rattle.c2po_unfold.specs.Scopes.{Fits, Meets, names_of}
+use Rattle.c2po_unfold.specs.Cases.{Case}
+use Rattle.c2po_unfold.specs.Scopes.{Fits, FitsIn, Meets, names_of}
 use Rattle.c2po_unfold.specs.Covering.{Mode, covering}
 use Rattle.c2po_unfold.specs.Summaries.{IsOfLeaf}
 use Rattle.c2po_unfold.specs.Heads.{Heads}
@@ -157,6 +158,7 @@ fits_later m base (Open' x e p within q outer) old new env g h = (
 fits_later m base (Held' x s i q outer) old new env g h =
     (h.0, h.1, holds_later h.0 old new s g h.2, fits_later m base outer old new h.1 g h.3, h.4)
 fits_later m base (Covered' x s q outer) old new env g h = (h.0, h.1, h.2, fits_later m base outer old new h.1 g h.3, h.4)
+fits_later m base (Varied' x ms q outer) old new env g h = absurd h.2
 
 -- the names of an expression within variables are resolved later too
 pub meets_later : (m : Mode) (base : Env) (scope : Scope) (old new : Unfolding) (env : Env) (e : Resolved) → IsLater old new →
@@ -188,6 +190,7 @@ heads_later m base (head.Leaf scope e) old new v g k =
     (k.0, fits_later m base scope.now old new k.0 g k.1, resolved_later old new base (names_of scope.now) e.now g k.2, k.3, k.4)
 heads_later m base (head.Held s) old new v g k = holds_later v old new s g k
 heads_later m base (head.Covered s) old new v g k = k
+heads_later m base (head.Varied ms) old new v g k = absurd k
 
 -- what is known as it is, is known so that it covers, and a variable may be any value that what is known of it covers
 pub leaf_covered : (m : Mode) (s : Summary) (v : Value) → IsOfLeaf m s v → IsOfLeaf covering s v
@@ -200,13 +203,14 @@ fits_covering m base (Open' x e p within q outer) u env h =
 fits_covering m base (Held' x s i q outer) u env h = (h.0, h.1, h.2, fits_covering m base outer u h.1 h.3, h.4)
 fits_covering m base (Covered' x s q outer) u env h =
     (h.0, h.1, leaf_covered m s.now h.0 h.2, fits_covering m base outer u h.1 h.3, h.4)
+fits_covering m base (Varied' x ms q outer) u env h = absurd h.2
 
 pub meets_covering : (m : Mode) (base : Env) (scope : Scope) (u : Unfolding) (env : Env) (e : Resolved) →
     Meets m u base scope env e → Meets covering u base scope env e
 meets_covering m base scope u env e h = record { fits = fits_covering m base scope u env h.fits; resolved = h.resolved }
 
 -- within variables, other names mean what they do without them
-pub fits_agree : (m : Mode) (u : Unfolding) (base : Env) (scope : Scope) (env : Env) → Fits m u base scope env → Agree (names_of scope) base env
+pub fits_agree : (m : Case) (u : Unfolding) (base : Env) (scope : Scope) (env : Env) → FitsIn m u base scope env → Agree (names_of scope) base env
 fits_agree m u base Top env h = subst (λ e. Agree [] base e) (sym h.1) (agree_base base)
 fits_agree m u base (Open' x e p within q outer) env h =
     subst (λ f. Agree (x.now ∷ names_of outer) base f) (sym h.5)
@@ -217,12 +221,16 @@ fits_agree m u base (Held' x s i q outer) env h =
 fits_agree m u base (Covered' x s q outer) env h =
     subst (λ f. Agree (x.now ∷ names_of outer) base f) (sym h.4)
     (agree_bind x.now h.0 (names_of outer) base h.1 (fits_agree m u base outer h.1 h.3))
+fits_agree m u base (Varied' x ms q outer) env h =
+    subst (λ f. Agree (x.now ∷ names_of outer) base f) (sym h.4)
+    (agree_bind x.now h.0 (names_of outer) base h.1 (fits_agree m u base outer h.1 h.3))
 
-pub fits_base : (m : Mode) (u : Unfolding) (base : Env) (scope : Scope) (env : Env) → Fits m u base scope env → StandsFor u base
+pub fits_base : (m : Case) (u : Unfolding) (base : Env) (scope : Scope) (env : Env) → FitsIn m u base scope env → StandsFor u base
 fits_base m u base Top env h = h.0
 fits_base m u base (Open' x e p within q outer) env h = fits_base m u base outer h.1 h.4
 fits_base m u base (Held' x s i q outer) env h = fits_base m u base outer h.1 h.3
 fits_base m u base (Covered' x s q outer) env h = fits_base m u base outer h.1 h.3
+fits_base m u base (Varied' x ms q outer) env h = fits_base m u base outer h.1 h.3
 
 -- without variables, names mean what is declared
 pub meets_top : (m : Mode) (u : Unfolding) (base : Env) (e : Resolved) → StandsFor u base → IsResolved u base [] e → Meets m u base Top base e

@@ -9,11 +9,11 @@ use Rattle.c2po_unfold.specs.declared.scope.Scope.{Scope}
 use Rattle.c2po_unfold.specs.declared.values.Stored.{Stored}
 use Rattle.c2po_unfold.specs.declared.scope.Led.{Led}
 use Rattle.c2po_unfold.specs.declared.unfolding.Unfolding.{Unfolding}
-use Rattle.c2po_unfold.specs.Covering.{Mode}
+use Rattle.c2po_unfold.specs.Cases.{Case}
 use Rattle.c2po_unfold.specs.Environment.{Env, bind, value, value_in, fields_in}
 use Rattle.c2po_unfold.specs.Heads.{IsLed}
 use Rattle.c2po_unfold.specs.Resolving.{IsBound, IsPlace, IsResolved, resolved_value}
-use Rattle.c2po_unfold.specs.Scopes.{Fits, Meets, names_of}
+use Rattle.c2po_unfold.specs.Scopes.{FitsIn, MeetsIn, names_of}
 use Rattle.c2po_unfold.specs.Holding.{Holds}
 use Rattle.c2po_unfold.specs.Values.{Value}
 use Rattle.c2po_unfold.proofs.Later.{fits_agree}
@@ -24,14 +24,14 @@ pub outer_known : (x y : List ℕ) (v : Value) (env around : Env) → env ≡ bi
 outer_known x y v env around same other =
     ap (λ (e : Env). e y) same ∙ ap (λ b. if b then value v else around y) other
 
-pub led_outer : (m : Mode) (u : Unfolding) (base : Env) (r : Led) (x y : List ℕ) (v : Value) (env around : Env) (xs : List (List ℕ)) →
+pub led_outer : (m : Case) (u : Unfolding) (base : Env) (r : Led) (x y : List ℕ) (v : Value) (env around : Env) (xs : List (List ℕ)) →
     env ≡ bind x v around → bytes_eq y x ≡ false → IsBound (x ∷ xs) y → (IsBound xs y → IsLed m u base r (value_in (around y))) →
     IsLed m u base r (value_in (env y))
 led_outer m u base r x y v env around xs same other h k =
     subst (λ w. IsLed m u base r (value_in w)) (sym (outer_known x y v env around same other)) (k (bound_further x y xs other h))
 
 -- a hint of the struct's name says the place of the field
-pub hinted : (m : Mode) (u : Unfolding) (base : Env) (scope : Scope) (env : Env) (f x y : List ℕ) (k : ℕ) → Fits m u base scope env →
+pub hinted : (m : Case) (u : Unfolding) (base : Env) (scope : Scope) (env : Env) (f x y : List ℕ) (k : ℕ) → FitsIn m u base scope env →
     IsPlace base (names_of scope) f (Place y k) → bytes_eq y x ≡ true → Some k ≡ position (bytes_eq f) (fields_in (env x))
 hinted m u base scope env f x y k h p same =
     let name : y ≡ x = (bytes_eq-Decides y x).0 same in
@@ -39,8 +39,8 @@ hinted m u base scope env f x y k h p same =
     sym p.1 ∙ (ap (λ e. position (bytes_eq f) (fields_in e)) (sym (agree.free y p.0)) ∙ ap (λ z. position (bytes_eq f) (fields_in (env z))) name)
 
 -- a declared name has the stored value next to it
-pub known_holds : (m : Mode) (u : Unfolding) (base : Env) (scope : Scope) (env : Env) (e : Resolved) (x : List ℕ) (s : Stored) →
-    Meets m u base scope env e → e ≡ Known x s → Holds u s (resolved_value e env)
+pub known_holds : (m : Case) (u : Unfolding) (base : Env) (scope : Scope) (env : Env) (e : Resolved) (x : List ℕ) (s : Stored) →
+    MeetsIn m u base scope env e → e ≡ Known x s → Holds u s (resolved_value e env)
 known_holds m u base scope env e x s h is =
     let g = subst (IsResolved u base (names_of scope)) is h.resolved in
     let agree = fits_agree m u base scope env h.fits in
@@ -48,8 +48,8 @@ known_holds m u base scope env e x s h is =
     subst (λ d. Holds u s (resolved_value d env)) (sym is) (subst (λ k. Holds u s (value_in k)) (sym same) g.1.2)
 
 -- an expression has the stored value next to it
-pub found_holds : (m : Mode) (u : Unfolding) (base : Env) (scope : Scope) (env : Env) (e d : Resolved) (p : _) (s : Stored) →
-    Meets m u base scope env e → e ≡ Found' p d s → Holds u s (resolved_value e env)
+pub found_holds : (m : Case) (u : Unfolding) (base : Env) (scope : Scope) (env : Env) (e d : Resolved) (p : _) (s : Stored) →
+    MeetsIn m u base scope env e → e ≡ Found' p d s → Holds u s (resolved_value e env)
 found_holds m u base scope env e d p s h is =
     let g = subst (IsResolved u base (names_of scope)) is h.resolved in
     subst (λ k. Holds u s (resolved_value k env)) (sym is) (g env (fits_agree m u base scope env h.fits))

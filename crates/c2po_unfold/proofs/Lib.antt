@@ -1,8 +1,10 @@
+pub mod Cases
 pub mod Columns
 pub mod Declaring
 pub mod Finding
 pub mod Gathering
 pub mod Holding
+pub mod Joining
 pub mod Knowing
 pub mod Later
 pub mod Leading

@@ -25,7 +25,8 @@ use Rattle.c2po_unfold.specs.Holding.{Holds, HoldAll, IsLater}
 use Rattle.c2po_unfold.specs.Heads.{Heads}
 use Rattle.c2po_unfold.specs.Operators.{binary_value}
 use Rattle.c2po_unfold.specs.Resolving.{AllResolved, IsResolved, resolved_body, resolved_bodies, resolved_value, resolved_values}
-use Rattle.c2po_unfold.specs.Scopes.{Fits, Meets, names_of}
+use Rattle.c2po_unfold.specs.Cases.{Case}
+use Rattle.c2po_unfold.specs.Scopes.{Fits, FitsIn, Meets, MeetsIn, names_of}
 use Rattle.c2po_unfold.specs.declared.summary.Summary.{Summary}
 use Rattle.c2po_unfold.specs.Summaries.{IsSummary, gathered}
 use Rattle.c2po_unfold.specs.declared.known.BodyFact.{BodyFact}
@@ -194,10 +195,10 @@ bodies_by x env set body s b sets bodies =
     ∙ ap (λ r. map (λ v. resolved_value r (bind x v env)) (members (resolved_value s env))) bodies
 
 -- a quantifier's body within its own variable too
-pub meets_within : (m : Mode) (u : Unfolding) (base : Env) (scope within : Scope) (env : Env) (q : Quantified) (v : Value) → names_of within ≡ q.name.now ∷ names_of scope →
-    Fits m u base within (bind q.name.now v env) → IsResolved u base (q.name.now ∷ names_of scope) q.body.now →
-    Meets m u base within (bind q.name.now v env) q.body.now
-meets_within m u base scope within env q v names fits resolved = record {
+pub meets_within : (c : Case) (u : Unfolding) (base : Env) (scope within : Scope) (env : Env) (q : Quantified) (v : Value) → names_of within ≡ q.name.now ∷ names_of scope →
+    FitsIn c u base within (bind q.name.now v env) → IsResolved u base (q.name.now ∷ names_of scope) q.body.now →
+    MeetsIn c u base within (bind q.name.now v env) q.body.now
+meets_within c u base scope within env q v names fits resolved = record {
   fits = fits;
   resolved = subst (λ xs. IsResolved u base xs q.body.now) (sym names) resolved;
 }

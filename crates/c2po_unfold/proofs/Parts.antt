@@ -17,11 +17,11 @@ use Rattle.c2po_unfold.specs.declared.scope.Head.TheVariants as head
 use Rattle.c2po_unfold.specs.declared.unfolding.Unfolding.{Unfolding}
 use Rattle.c2po_unfold.specs.Values.{Value, leaf, structure, set, list_of, members, picked, part_or, built, grouped}
 use Rattle.c2po_unfold.specs.Environment.{Env}
-use Rattle.c2po_unfold.specs.Covering.{Mode}
+use Rattle.c2po_unfold.specs.Cases.{Case}
 use Rattle.c2po_unfold.specs.declared.summary.Summary.{Summary}
 use Rattle.c2po_unfold.specs.Holding.{Holds, Keeps}
 use Rattle.c2po_unfold.specs.Resolving.{is_operation, resolved_value, resolved_values}
-use Rattle.c2po_unfold.specs.Heads.{Heads, HoldMembers, IsOf}
+use Rattle.c2po_unfold.specs.Heads.{HeadsIn, HoldMembers, IsOf}
 use Rattle.c2po_unfold.proofs.Members.{values_count, value_at, hold_count, hold_at, operation_is_leaf}
 
 -- a stored value that has the parts of a set is of no struct
@@ -94,10 +94,10 @@ held_part_past (structure y vs) u s i p x k fields f h e a n q b =
     (subst (λ r. Holds u s r) (sym (get_or_past (list_of vs) k (structure y vs) past)) h)
 
 -- the members of heads
-pub set_count : (m : Mode) (u : Unfolding) (base : Env) (h : Head) (scope : Bor Scope) (d : Bor Resolved) (es : Bor (List Resolved)) (v : Value) → h ≡ head.Set scope d es → Heads m u base h v →
+pub set_count : (m : Case) (u : Unfolding) (base : Env) (h : Head) (scope : Bor Scope) (d : Bor Resolved) (es : Bor (List Resolved)) (v : Value) → h ≡ head.Set scope d es → HeadsIn m u base h v →
     length es.now ≡ length (members v)
 set_count m u base h scope d es v e k =
-    let g : Heads m u base (head.Set scope d es) v = subst (λ x. Heads m u base x v) e k in
+    let g : HeadsIn m u base (head.Set scope d es) v = subst (λ x. HeadsIn m u base x v) e k in
     sym (ap (λ w. length (members w)) g.5 ∙ values_count es.now g.0)
 
 pub members_count : (v : Value) (u : Unfolding) (ss : List Stored) → HoldMembers u ss v → length ss ≡ length (members v)
@@ -185,43 +185,43 @@ facts_push u facts f same = record {
 }
 
 -- other heads than sets have no members, and other heads than structs have no parts
-pub other_members : (m : Mode) (u : Unfolding) (base : Env) (h : Head) (v : Value) →
+pub other_members : (m : Case) (u : Unfolding) (base : Env) (h : Head) (v : Value) →
     ((x : Bor Scope) × (y : Bor Resolved) × (h ≡ head.Nothing x y)) ⊎ (((x : Bor Scope) × (d : Bor Resolved) × (y : Bor (List ℕ)) × (z : Bor (List Resolved)) × (h ≡ head.Struct x d y z))
     ⊎ (((x : Bor Scope) × (y : Bor Resolved) × (h ≡ head.Leaf x y)) ⊎ ((x : Bor Summary) × (h ≡ head.Covered x)))) →
-    Heads m u base h v → members v ≡ []
+    HeadsIn m u base h v → members v ≡ []
 other_members m u base h v e k = elim e [
   | inl n ↦
-      let g : Heads m u base (head.Nothing n.0 n.1) v = subst (λ x. Heads m u base x v) n.2 k in
+      let g : HeadsIn m u base (head.Nothing n.0 n.1) v = subst (λ x. HeadsIn m u base x v) n.2 k in
       absurd g
   | inr o ↦ elim o [
-    | inl s ↦ let g : Heads m u base (head.Struct s.0 s.1 s.2 s.3) v = subst (λ x. Heads m u base x v) s.4 k in ap members g.5
+    | inl s ↦ let g : HeadsIn m u base (head.Struct s.0 s.1 s.2 s.3) v = subst (λ x. HeadsIn m u base x v) s.4 k in ap members g.5
     | inr q ↦ elim q [
       | inl l ↦
-          let g : Heads m u base (head.Leaf l.0 l.1) v = subst (λ x. Heads m u base x v) l.2 k in
+          let g : HeadsIn m u base (head.Leaf l.0 l.1) v = subst (λ x. HeadsIn m u base x v) l.2 k in
           leaf_members l.1.now g.0 v g.3 g.4
-      | inr c ↦ let g : Heads m u base (head.Covered c.0) v = subst (λ x. Heads m u base x v) c.1 k in ap members g.1
+      | inr c ↦ let g : HeadsIn m u base (head.Covered c.0) v = subst (λ x. HeadsIn m u base x v) c.1 k in ap members g.1
     ]
   ]
 ]
 
-pub other_picked : (m : Mode) (u : Unfolding) (base : Env) (h : Head) (v : Value) (fields : List ℕ → List (List ℕ)) (f : List ℕ) →
+pub other_picked : (m : Case) (u : Unfolding) (base : Env) (h : Head) (v : Value) (fields : List ℕ → List (List ℕ)) (f : List ℕ) →
     ((x : Bor Scope) × (y : Bor Resolved) × (h ≡ head.Nothing x y)) ⊎ (((x : Bor Scope) × (d : Bor Resolved) × (z : Bor (List Resolved)) × (h ≡ head.Set x d z))
     ⊎ (((x : Bor Scope) × (y : Bor Resolved) × (h ≡ head.Leaf x y)) ⊎ ((x : Bor Summary) × (h ≡ head.Covered x)))) →
-    Heads m u base h v → picked fields f v ≡ v
+    HeadsIn m u base h v → picked fields f v ≡ v
 other_picked m u base h v fields f e k = elim e [
   | inl n ↦
-      let g : Heads m u base (head.Nothing n.0 n.1) v = subst (λ x. Heads m u base x v) n.2 k in
+      let g : HeadsIn m u base (head.Nothing n.0 n.1) v = subst (λ x. HeadsIn m u base x v) n.2 k in
       absurd g
   | inr o ↦ elim o [
     | inl s ↦
-        let g : Heads m u base (head.Set s.0 s.1 s.2) v = subst (λ x. Heads m u base x v) s.3 k in
+        let g : HeadsIn m u base (head.Set s.0 s.1 s.2) v = subst (λ x. HeadsIn m u base x v) s.3 k in
         subst (λ w. picked fields f w ≡ w) (sym g.5) refl
     | inr q ↦ elim q [
       | inl l ↦
-          let g : Heads m u base (head.Leaf l.0 l.1) v = subst (λ x. Heads m u base x v) l.2 k in
+          let g : HeadsIn m u base (head.Leaf l.0 l.1) v = subst (λ x. HeadsIn m u base x v) l.2 k in
           leaf_picked l.1.now g.0 v fields f g.3 g.4
       | inr c ↦
-          let g : Heads m u base (head.Covered c.0) v = subst (λ x. Heads m u base x v) c.1 k in
+          let g : HeadsIn m u base (head.Covered c.0) v = subst (λ x. HeadsIn m u base x v) c.1 k in
           subst (λ w. picked fields f w ≡ w) (sym g.1) refl
     ]
   ]

@@ -1,61 +1,69 @@
--- What is known of expressions for several values at once.
+-- What is known of expressions in several cases at once.
 
-use Rattle.std.proofs.Common.{◌≡◌, ℕ, zero, suc, ◌+◌, ◌-◌, ◌<◌, Option, Some, None, IfSome, List, [], ◌∷◌, ◌++◌, ◌⊎◌, inl, inr, true, false, if◌then◌else◌, Vec, Global, length, get_or, slice_get, Bor, refl, sym, subst, ap, ◌∙◌, arith}
+use Rattle.std.proofs.Common.{◌≡◌, ℕ, zero, suc, ◌+◌, ◌-◌, ◌*◌, ◌/◌, ◌%◌, ◌<◌, ◌≤◌, Option, Some, None, IfSome, List, [], ◌∷◌, ◌++◌, ◌⊎◌, inl, inr, length, get_or, slice_get, Bor, refl, sym, subst, ap, ◌∙◌, arith}
 use Rattle.std.specs.Slice.{IsGetRangeResult, IsItemAt}
 use Rattle.std.proofs.Math.ListN.{drop}
+use Rattle.std.proofs.Math.Nat.{add-mul-div_left, div-eq_of_lt, mul-le-mul_left, mul-suc, mul-zero}
 use Rattle.std.proofs.lemmas.Option.{get_or_from_slice_get, slice_get_read, slice_get_within, same_Some}
 use Rattle.std.proofs.lemmas.List.{get_or-drop, get_or-take, length-append, length-drop, take_all}
 use Rattle.c2po_unfold.specs.declared.values.Location.TheVariants.{Leaf as LeafAt}
 use Rattle.c2po_nodes.proofs.Places.{get_left, get_last}
+use Rattle.c2po_unfold.specs.declared.counting.Counting.{Counting}
 use Rattle.c2po_unfold.specs.declared.each.Each.{Each}
 use Rattle.c2po_unfold.specs.declared.operators.UnaryOp.{UnaryOp}
 use Rattle.c2po_unfold.specs.declared.operators.BinaryOp.{BinaryOp}
+use Rattle.c2po_unfold.specs.declared.operators.BinaryOp.TheVariants.{Logic}
+use Rattle.mltl_base.specs.declared.operators.LogicOp.{LogicOp}
 use Rattle.c2po_unfold.specs.declared.resolved.Row.{Row}
+use Rattle.c2po_unfold.specs.declared.resolved.Resolved.{Resolved}
+use Rattle.c2po_unfold.specs.declared.scope.Member.{Member}
+use Rattle.c2po_unfold.specs.declared.scope.Scope.{Scope}
 use Rattle.c2po_unfold.specs.declared.summary.Summary.{Summary}
 use Rattle.c2po_unfold.specs.declared.unfolding.Unfolding.{Unfolding}
 use Rattle.c2po_unfold.specs.declared.values.Stored.{Stored}
-use Rattle.c2po_unfold.specs.declared.each.Members.{Members}
-use Rattle.c2po_unfold.specs.declared.resolved.Resolved.{Resolved, Variable, Column', Unary', Binary'}
-use Rattle.c2po_unfold.specs.declared.scope.Scope.{Scope, Held'}
-use Rattle.c2po_unfold.specs.Ahead.{KnownFor, MeetsMember, known_at}
-use Rattle.c2po_unfold.specs.Environment.{Env, bind, value, value_in}
-use Rattle.c2po_unfold.specs.Resolving.{IsBound, IsResolved, resolved_value}
-use Rattle.c2po_unfold.proofs.Columns.{column_bound, column_holds}
-use Rattle.c2po_unfold.proofs.Names.{bound_further}
-use Rattle.std.specs.Str.{bytes_eq}
-use Rattle.c2po_unfold.specs.Scopes.{Meets, names_of}
+use Rattle.c2po_unfold.specs.Ahead.{AreListed, GatheredFor, HasMember, IsGathered, IsListed, KnownFor, RowsLead, known_at}
+use Rattle.c2po_unfold.specs.Cases.{IsMember, IsVaried, nth}
 use Rattle.c2po_unfold.specs.Covering.{Mode}
+use Rattle.c2po_unfold.specs.Environment.{Env}
+use Rattle.c2po_unfold.specs.Heads.{HoldMembers}
 use Rattle.c2po_unfold.specs.Holding.{Holds}
+use Rattle.c2po_unfold.specs.Resolving.{resolved_value}
+use Rattle.c2po_unfold.specs.Scopes.{MeetsIn}
 use Rattle.c2po_unfold.specs.Operators.{binary_value, unary_value}
 use Rattle.c2po_unfold.specs.Summaries.{IsSummary}
-use Rattle.c2po_unfold.specs.Values.{Value}
+use Rattle.c2po_unfold.specs.Values.{Value, connected_all, counted, members}
 
--- of the first values, each of those that are meant is known
-pub record KnownSoFar (Meant : Mode → ℕ → Value → Type 0) (i : ℕ) (all : List Summary) : Type 0 where
+-- a number that is at most another one is less, or the same
+or_last : (j k : ℕ) → j < k + 1 → (j < k) ⊎ (j ≡ k)
+or_last zero zero h = inr refl
+or_last zero (suc k) h = inl (omega arith)
+or_last (suc j) zero h = absurd (omega (arith, h))
+or_last (suc j) (suc k) h = elim (or_last j k (omega (arith, h))) [
+  | inl l ↦ inl (omega (arith, l))
+  | inr e ↦ inr (ap suc e)
+]
+
+-- of the first values, what is meant by each is found
+pub record FoundSoFar {X V : Type 0} (Is : Mode → X → V → Type 0) (Meant : Mode → ℕ → V → Type 0) (i : ℕ) (all : List X) : Type 0 where
   pub count : length all ≡ i
-  pub known : (m : Mode) (j : ℕ) (v : Value) → j < i → Meant m j v → (s : Summary) × (slice_get all j ≡ Some s) × IsSummary m s v
+  pub known : (m : Mode) (j : ℕ) (v : V) → j < i → Meant m j v → (s : X) × (slice_get all j ≡ Some s) × Is m s v
 
-pub known_none : (Meant : Mode → ℕ → Value → Type 0) (all : List Summary) → all ≡ [] → KnownSoFar Meant 0 all
-known_none Meant all none = record { count = ap length none; known = λ m j v inside. absurd (omega (arith, inside)) }
+-- what is known of values
+abbrev pub KnownSoFar : (Mode → ℕ → Value → Type 0) → ℕ → List Summary → Type 0
+KnownSoFar Meant i all = FoundSoFar IsSummary Meant i all
+
+pub known_none : {X V : Type 0} (Is : Mode → X → V → Type 0) (Meant : Mode → ℕ → V → Type 0) (all : List X) → all ≡ [] → FoundSoFar Is Meant 0 all
+known_none Is Meant all none = record { count = ap length none; known = λ m j v inside. absurd (omega (arith, inside)) }
 
 -- one more
-pub known_more : (Meant : Mode → ℕ → Value → Type 0) (i : ℕ) (old new : List Summary) (s : Summary) → KnownSoFar Meant i old → new ≡ old ++ s ∷ [] →
-    ((m : Mode) (v : Value) → Meant m i v → IsSummary m s v) → KnownSoFar Meant (i + 1) new
-known_more Meant i old new s h longer next = record {
+pub known_more : {X V : Type 0} {Is : Mode → X → V → Type 0} (Meant : Mode → ℕ → V → Type 0) (i : ℕ) (old new : List X) (s : X) → FoundSoFar Is Meant i old →
+    new ≡ old ++ s ∷ [] → ((m : Mode) (v : V) → Meant m i v → Is m s v) → FoundSoFar Is Meant (i + 1) new
+known_more {X = X} {V = V} {Is = Is} Meant i old new s h longer next = record {
   count = ap length longer ∙ (length-append old (s ∷ []) ∙ ap (λ n. n + 1) h.count);
   known = λ m j v inside meant. by m j v meant (or_last j i inside);
 }
   where
-    or_last : (j k : ℕ) → j < k + 1 → (j < k) ⊎ (j ≡ k)
-    or_last zero zero h = inr refl
-    or_last zero (suc k) h = inl (omega arith)
-    or_last (suc j) zero h = absurd (omega (arith, h))
-    or_last (suc j) (suc k) h = elim (or_last j k (omega (arith, h))) [
-      | inl l ↦ inl (omega (arith, l))
-      | inr e ↦ inr (ap suc e)
-    ]
-
-    by : (m : Mode) (j : ℕ) (v : Value) → Meant m j v → (j < i) ⊎ (j ≡ i) → (r : Summary) × (slice_get new j ≡ Some r) × IsSummary m r v
+    by : (m : Mode) (j : ℕ) (v : V) → Meant m j v → (j < i) ⊎ (j ≡ i) → (r : X) × (slice_get new j ≡ Some r) × Is m r v
     by m j v meant (inl inside) =
         let k = h.known m j v inside meant in
         (k.0, subst (λ xs. slice_get xs j ≡ Some k.0) (sym longer) (get_left old (s ∷ []) j k.0 k.1), k.2)
@@ -73,22 +81,56 @@ OverOne op a m i v = (w : Value) × KnownFor m a i w × (v ≡ unary_value op w)
 abbrev pub OverTwo : BinaryOp → Each → Each → Mode → ℕ → Value → Type 0
 OverTwo op a b m i v = (w : Value) × (x : Value) × KnownFor m a i w × KnownFor m b i x × (v ≡ binary_value op w x)
 
--- values of stored members
-abbrev pub OfMember : Unfolding → List Stored → Mode → ℕ → Value → Type 0
-OfMember u ss m i v = (s : Stored) × (slice_get ss i ≡ Some s) × Holds u s v
+-- the only body so far, as a formula
+abbrev pub OfFirst : Each → Mode → ℕ → Value → Type 0
+OfFirst body m i v = (op : LogicOp) × (w : Value) × KnownFor m body i w × (v ≡ connected_all op (w ∷ []))
 
--- values of what a column has for members
-abbrev pub OfRow : Unfolding → List Stored → List Row → Mode → ℕ → Value → Type 0
-OfRow u ss rows m i v = (s : Stored) × (slice_get ss i ≡ Some s)
-    × ((k : ℕ) (r : Row) → slice_get rows k ≡ Some r → r.member ≡ s → Holds u r.found v)
+-- joined bodies with one more, which is known from a case on
+abbrev pub OfNext : LogicOp → Each → Each → ℕ → Mode → ℕ → Value → Type 0
+OfNext op joined next from m i v = (w : Value) × (x : Value) × KnownFor m joined i w × KnownFor m next (i + from) x × (v ≡ binary_value (Logic op) w x)
 
--- what is known for the value with a number is so of it
-pub known_here : (m : Mode) (each : Each) (i : ℕ) (v : Value) (s : Summary) → KnownFor m each i v → known_at each i ≡ Some s → IsSummary m s v
-known_here m each i v s h at = subst (λ r. IsSummary m r v) (same_Some h.0 s (sym h.1 ∙ at)) h.2
+-- bodies together with one more, which is known from a case on
+abbrev pub OfMore : Each → Each → ℕ → Mode → ℕ → List Value → Type 0
+OfMore bodies next from m i ws = (vs : List Value) × (w : Value) × GatheredFor m bodies i vs × KnownFor m next (i + from) w × (ws ≡ vs ++ w ∷ [])
+
+-- a counting quantifier over bodies that are known together
+abbrev pub OfCounted : Counting → Each → Mode → ℕ → Value → Type 0
+OfCounted counting bodies m i v = (vs : List Value) × (counting.members ≡ length vs) × (0 < length vs) × GatheredFor m bodies i vs × (v ≡ counted counting.op counting.number vs)
+
+-- what is known of bodies together in a case is so of them
+pub gathered_here : (m : Mode) (each : Each) (i : ℕ) (vs : List Value) (s : Summary) → GatheredFor m each i vs → known_at each i ≡ Some s → IsGathered m s vs
+gathered_here m each i vs s h at = subst (λ r. IsGathered m r vs) (same_Some h.0 s (sym h.1 ∙ at)) h.2
 
 -- a stored value that stands for none
 abbrev pub no_stored : Stored
 no_stored = record { location = LeafAt 0; weight = 0; fault = None }
+
+-- the value of the member with the number of whole rounds
+abbrev pub OfRound : Unfolding → List Stored → ℕ → Mode → ℕ → Value → Type 0
+OfRound u members n m k v = (s : Stored) × (slice_get members (k / n) ≡ Some s) × Holds u s v
+
+-- a case of a round is among those of all rounds
+pub turn_within : (i n j k : ℕ) → i < n → j < k → i + n * j < n * k
+turn_within i n j k inside round =
+    let rounds : n * suc j ≤ n * k = mul-le-mul_left n round in
+    let one : n * suc j ≡ n * j + n = mul-suc n j in
+    omega (arith, inside, rounds, one)
+
+-- the number of whole rounds before a case
+pub round_of : (i n j : ℕ) → i < n → (i + n * j) / n ≡ j
+round_of i n j inside = add-mul-div_left i j (omega (arith, inside)) ∙ (ap (λ k. k + j) (div-eq_of_lt inside) ∙ omega arith)
+
+-- the value of the member in turn
+abbrev pub OfTurn : Unfolding → ℕ → List Member → Mode → ℕ → Value → Type 0
+OfTurn u n ms m i v = IsVaried (nth m n i) u ms v
+
+-- the value that rows have for the member in turn
+abbrev pub OfRow : Unfolding → ℕ → List Member → List Row → Mode → ℕ → Value → Type 0
+OfRow u n ms rows m i v = (w : Value) × IsVaried (nth m n i) u ms w × RowsLead u rows w v
+
+-- what is known for the value with a number is so of it
+pub known_here : (m : Mode) (each : Each) (i : ℕ) (v : Value) (s : Summary) → KnownFor m each i v → known_at each i ≡ Some s → IsSummary m s v
+known_here m each i v s h at = subst (λ r. IsSummary m r v) (same_Some h.0 s (sym h.1 ∙ at)) h.2
 
 -- what follows a place in a slice, by its places there
 pub rest_at : {A : Type 0} (whole : List A) (start i : ℕ) (o : Option (Bor (List A))) (rest : Bor (List A)) (x : A) → IsGetRangeResult whole start (length whole) o →
@@ -118,91 +160,116 @@ lent_at xs i o x h is =
     let g = subst (IsItemAt xs i) is h in
     slice_get_read xs (length xs) i x.now refl g.3.0 g.1
 
--- the variables around an expression with one more, which is the member with a number
-abbrev pub member_scope : Members → Stored → Scope → Scope
-member_scope of s scope = Held' of.name s 0 (record { ref_ptr = (0, 0); now = tt }) scope
+-- the member in turn has the value
+pub turn_holds : (m : Mode) (n i : ℕ) (u : Unfolding) (ms : List Member) (v : Value) (x : Member) → IsVaried (nth m n i) u ms v →
+    slice_get ms (i % length ms) ≡ Some x → IsMember m u x v
+turn_holds m n i u ms v x h at =
+    let here : i ≡ i + n * 0 = omega arith in
+    h 0 x (subst (λ k. slice_get ms (k % length ms) ≡ Some x) here at)
 
-pub meets_member : (m : Mode) (u : Unfolding) (base : Env) (scope : Scope) (env : Env) (of : Members) (e : Resolved) (i : ℕ) (v : Value) →
-    (h : MeetsMember m u base scope env of e i v) → Meets m u base (member_scope of h.stored scope) (bind of.name.now v env) e
-meets_member m u base scope env of e i v h = record { fits = (v, env, h.holds, h.fits, refl); resolved = h.resolved }
+-- what is known in the first cases, after other members
+pub listed_none : (each : Each) (old : List Member) → IsListed each 0 old old
+listed_none each old = record { count = omega arith; kept = λ k x at. at; listed = λ i inside. absurd (omega (arith, inside)) }
 
--- the same of another expression
-pub member_part : (m : Mode) (u : Unfolding) (base : Env) (scope : Scope) (env : Env) (of : Members) (e d : Resolved) (i : ℕ) (v : Value) →
-    MeetsMember m u base scope env of e i v → IsResolved u base (of.name.now ∷ names_of scope) d → MeetsMember m u base scope env of d i v
-member_part m u base scope env of e d i v h resolved =
-    record { fits = h.fits; resolved = resolved; stored = h.stored; at = h.at; holds = h.holds }
+pub listed_more : (each : Each) (i : ℕ) (old now new : List Member) (x : Member) → IsListed each i old now → new ≡ now ++ x ∷ [] →
+    known_at each i ≡ Some x.summary → x.stored ≡ None → IsListed each (i + 1) old new
+listed_more each i old now new x h longer known unstored = record {
+  count = ap length longer ∙ (length-append now (x ∷ []) ∙ omega (arith, h.count));
+  kept = λ k y at. further k y (h.kept k y at);
+  listed = λ j inside. by j (or_last j i inside);
+}
+  where
+    further : (k : ℕ) (y : Member) → slice_get now k ≡ Some y → slice_get new k ≡ Some y
+    further k y at = subst (λ xs. slice_get xs k ≡ Some y) (sym longer) (get_left now (x ∷ []) k y at)
 
--- the variable itself
-pub here_value : (of : Members) (env : Env) (e : Resolved) (v : Value) (x : List ℕ) → e ≡ Variable x → bytes_eq x of.name.now ≡ true →
-    resolved_value e (bind of.name.now v env) ≡ v
-here_value of env e v x is same =
-    ap (λ d. resolved_value d (bind of.name.now v env)) is ∙ ap (λ b. value_in (if b then value v else env x)) same
+    by : (j : ℕ) → (j < i) ⊎ (j ≡ i) → (y : Member) × (slice_get new (length old + j) ≡ Some y) × (known_at each j ≡ Some y.summary) × (y.stored ≡ None)
+    by j (inl inside) =
+        let g = h.listed j inside in
+        (g.0, further (length old + j) g.0 g.1, g.2, g.3)
+    by j (inr last) =
+        let place : length old + j ≡ length now = omega (arith, h.count, last) in (
+          x,
+          subst (λ xs. slice_get xs (length old + j) ≡ Some x) (sym longer) (subst (λ k. slice_get (now ++ x ∷ []) k ≡ Some x) (sym place) (get_last now x)),
+          ap (known_at each) last ∙ known,
+          unstored,
+        )
 
--- a variable of another name
-pub outer_meets : (m : Mode) (u : Unfolding) (base : Env) (scope : Scope) (env : Env) (of : Members) (e : Resolved) (i : ℕ) (v : Value) (x : List ℕ) →
-    MeetsMember m u base scope env of e i v → e ≡ Variable x → bytes_eq x of.name.now ≡ false → Meets m u base scope env e
-outer_meets m u base scope env of e i v x h is other =
-    let bound = bound_further of.name.now x (names_of scope) other (subst (IsResolved u base (of.name.now ∷ names_of scope)) is h.resolved) in
-    record { fits = h.fits; resolved = subst (IsResolved u base (names_of scope)) (sym is) bound }
+-- what is known of the first expressions, and of one more
+pub are_listed_none : (u : Unfolding) (scope : Scope) (n : ℕ) (es : List Resolved) (all : List Member) → all ≡ [] → AreListed u scope n es 0 all
+are_listed_none u scope n es all none = record {
+  count = ap length none ∙ sym (mul-zero n);
+  each = λ m base env i j e inside first. absurd (omega (arith, first));
+}
 
-pub outer_value : (of : Members) (env : Env) (e : Resolved) (v : Value) (x : List ℕ) → e ≡ Variable x → bytes_eq x of.name.now ≡ false →
-    resolved_value e env ≡ resolved_value e (bind of.name.now v env)
-outer_value of env e v x is other =
-    ap (λ d. resolved_value d env) is
-    ∙ sym (ap (λ d. resolved_value d (bind of.name.now v env)) is ∙ ap (λ b. value_in (if b then value v else env x)) other)
+pub are_listed_more : (u : Unfolding) (scope : Scope) (n : ℕ) (es : List Resolved) (t : ℕ) (e : Resolved) (old new : List Member) (each : Each) → AreListed u scope n es t old →
+    slice_get es t ≡ Some e → IsListed each n old new →
+    ((m : Mode) (base env : Env) (i : ℕ) → i < n → MeetsIn (nth m n i) u base scope env e → KnownFor m each i (resolved_value e env)) →
+    AreListed u scope n es (t + 1) new
+are_listed_more u scope n es t e old new each h at more known = record {
+  count = more.count ∙ omega (arith, h.count, mul-suc n t);
+  each = λ m base env i j d inside round there meets. by m base env i j d inside there meets (or_last j t round);
+}
+  where
+    by : (m : Mode) (base env : Env) (i j : ℕ) (d : Resolved) → i < n → slice_get es j ≡ Some d → MeetsIn (nth m n i) u base scope env d → (j < t) ⊎ (j ≡ t) →
+        HasMember m u new (i + n * j) (resolved_value d env)
+    by m base env i j d inside there meets (inl round) =
+        let g = h.each m base env i j d inside round there meets in
+        (g.0, more.kept (i + n * j) g.0 g.1, g.2)
+    by m base env i j d inside there meets (inr last) =
+        let same : e ≡ d = same_Some e d (sym at ∙ subst (λ k. slice_get es k ≡ Some d) last there) in
+        let g = more.listed i inside in
+        let place : length old + i ≡ i + n * j = subst (λ k. length old + i ≡ i + n * k) (sym last) (omega (arith, h.count)) in
+        let own = known m base env i inside (subst (λ x. MeetsIn (nth m n i) u base scope env x) (sym same) meets) in
+        let is = subst (λ x. IsSummary m g.0.summary (resolved_value x env)) same (known_here m each i (resolved_value e env) g.0.summary own g.2) in (
+          g.0,
+          subst (λ k. slice_get new k ≡ Some g.0) place g.1,
+          record { known = is; holds = λ s stored. cc },
+        )
 
--- what a column has for the member
-pub row_holds : (m : Mode) (u : Unfolding) (base : Env) (scope : Scope) (env : Env) (of : Members) (e d : Resolved) (i : ℕ) (v : Value) (p : _) (x : List ℕ) (rows : Vec Row Global) (ys : List Row) →
-    (h : MeetsMember m u base scope env of e i v) → e ≡ Column' p d x rows → ys ≡ rows.items → bytes_eq x of.name.now ≡ true →
-    (k : ℕ) (r : Row) → slice_get ys k ≡ Some r → r.member ≡ h.stored → Holds u r.found (resolved_value e (bind of.name.now v env))
-row_holds m u base scope env of e d i v p x rows ys h is same here k r at member =
-    let value_here : value_in (bind of.name.now v env x) ≡ v = ap (λ b. value_in (if b then value v else env x)) here in
-    let held : Holds u r.member (value_in (bind of.name.now v env x)) =
-    subst (λ w. Holds u r.member w) (sym value_here) (subst (λ s. Holds u s v) (sym member) h.holds) in
-    column_holds m u base (member_scope of h.stored scope) (bind of.name.now v env) e d p x rows ys r.found
-    (meets_member m u base scope env of e i v h) is same (r, k, at, held, refl)
+-- the first of these are the same
+pub record AreSame (s : Summary) (i : ℕ) (all : List Summary) : Type 0 where
+  pub each : (j : ℕ) (k : Summary) → j < i → slice_get all j ≡ Some k → k ≡ s
 
--- what a column of a variable of another name has for it
-pub outer_bound : (m : Mode) (u : Unfolding) (base : Env) (scope : Scope) (env : Env) (of : Members) (e d : Resolved) (i : ℕ) (v : Value) (p : _) (x : List ℕ) (rows : Vec Row Global) →
-    MeetsMember m u base scope env of e i v → e ≡ Column' p d x rows → bytes_eq x of.name.now ≡ false → IsBound (names_of scope) x
-outer_bound m u base scope env of e d i v p x rows h is other =
-    bound_further of.name.now x (names_of scope) other
-    (column_bound m u base (member_scope of h.stored scope) (bind of.name.now v env) e d p x rows (meets_member m u base scope env of e i v h) is)
+pub same_none : (s : Summary) (all : List Summary) → AreSame s 0 all
+same_none s all = record { each = λ j k inside. absurd (omega (arith, inside)) }
 
-pub outer_column : (m : Mode) (u : Unfolding) (base : Env) (scope : Scope) (env : Env) (of : Members) (e d : Resolved) (i : ℕ) (v : Value) (p : _) (x : List ℕ) (rows : Vec Row Global) (ys : List Row) (t : Stored) →
-    MeetsMember m u base scope env of e i v → e ≡ Column' p d x rows → ys ≡ rows.items → bytes_eq x of.name.now ≡ false →
-    (o : Option Stored) → o ≡ Some t → IfSome o (λ t. (r : Row) × (k : ℕ) × (slice_get ys k ≡ Some r) × Holds u r.member (value_in (env x)) × (t ≡ r.found)) →
-    Holds u t (resolved_value e (bind of.name.now v env))
-outer_column m u base scope env of e d i v p x rows ys t h is same other o there found =
-    let k = subst (λ o. IfSome o (λ t. (r : Row) × (k : ℕ) × (slice_get ys k ≡ Some r) × Holds u r.member (value_in (env x)) × (t ≡ r.found))) there found in
-    let value_there : value_in (bind of.name.now v env x) ≡ value_in (env x) = ap (λ b. value_in (if b then value v else env x)) other in
-    column_holds m u base (member_scope of h.stored scope) (bind of.name.now v env) e d p x rows ys t
-    (meets_member m u base scope env of e i v h) is same
-    (k.0, k.1, k.2, subst (λ w. Holds u k.0.member w) (sym value_there) k.3, k.4)
+pub same_more : (s t : Summary) (i : ℕ) (all : List Summary) → AreSame s i all → slice_get all i ≡ Some t → s ≡ t → AreSame s (i + 1) all
+same_more s t i all h at same = record { each = λ j k inside there. by j k there (or_last j i inside) }
+  where
+    by : (j : ℕ) (k : Summary) → slice_get all j ≡ Some k → (j < i) ⊎ (j ≡ i) → k ≡ s
+    by j k there (inl inside) = h.each j k inside there
+    by j k there (inr last) = same_Some k t (sym there ∙ subst (λ n. slice_get all n ≡ Some t) (sym last) at) ∙ sym same
 
--- operands
-pub unary_meets : (m : Mode) (u : Unfolding) (base : Env) (scope : Scope) (env : Env) (of : Members) (e a d : Resolved) (i : ℕ) (v : Value) (op : UnaryOp) (p : _) →
-    MeetsMember m u base scope env of e i v → e ≡ Unary' op p a → d ≡ a → MeetsMember m u base scope env of d i v
-unary_meets m u base scope env of e a d i v op p h is same =
-    member_part m u base scope env of e d i v h
-    (subst (IsResolved u base (of.name.now ∷ names_of scope)) (sym same) (subst (IsResolved u base (of.name.now ∷ names_of scope)) is h.resolved))
+-- the member with a number of the set of a case
+abbrev pub OfSet : Unfolding → List Member → ℕ → ℕ → Mode → ℕ → Value → Type 0
+OfSet u sets t n m i v = (s : Value) × IsVaried (nth m n i) u sets s × (slice_get (members s) t ≡ Some v)
 
-pub unary_same : (env : Env) (e a d : Resolved) (op : UnaryOp) (p : _) → e ≡ Unary' op p a → d ≡ a →
-    unary_value op (resolved_value d env) ≡ resolved_value e env
-unary_same env e a d op p is same = ap (λ x. unary_value op (resolved_value x env)) same ∙ sym (ap (λ x. resolved_value x env) is)
+-- joined bodies with one more where the set of a case has a member with a number, else as they are
+abbrev pub OfWhere : Unfolding → LogicOp → Each → Each → List Member → ℕ → ℕ → Mode → ℕ → Value → Type 0
+OfWhere u op joined next sets t n m i x = (s : Value) × (v : Value) × IsVaried (nth m n i) u sets s × KnownFor m joined i v
+    × (((t < length (members s)) × ((w : Value) × KnownFor m next i w × (x ≡ binary_value (Logic op) v w))) ⊎ ((length (members s) ≤ t) × (x ≡ v)))
 
-pub binary_meets : (m : Mode) (u : Unfolding) (base : Env) (scope : Scope) (env : Env) (of : Members) (e a b d f : Resolved) (i : ℕ) (v : Value) (op : BinaryOp) (p q : _) →
-    MeetsMember m u base scope env of e i v → e ≡ Binary' op p a q b → d ≡ a → f ≡ b →
-    MeetsMember m u base scope env of d i v × MeetsMember m u base scope env of f i v
-binary_meets m u base scope env of e a b d f i v op p q h is left right =
-    let names = of.name.now ∷ names_of scope in
-    let both = subst (IsResolved u base names) is h.resolved in (
-      member_part m u base scope env of e d i v h (subst (IsResolved u base names) (sym left) both.0),
-      member_part m u base scope env of e f i v h (subst (IsResolved u base names) (sym right) both.1),
-    )
+-- no set of the first cases has more members, and each has one
+pub record MostSoFar (u : Unfolding) (sets : List Member) (i most : ℕ) : Type 0 where
+  pub some : 0 < most
+  pub each : (m : Mode) (n j : ℕ) (s : Value) → j < i → IsVaried (nth m n j) u sets s → (0 < length (members s)) × (length (members s) ≤ most)
 
-pub binary_same : (env : Env) (e a b d f : Resolved) (op : BinaryOp) (p q : _) → e ≡ Binary' op p a q b → d ≡ a → f ≡ b →
-    binary_value op (resolved_value d env) (resolved_value f env) ≡ resolved_value e env
-binary_same env e a b d f op p q is left right =
-    ap (λ x. binary_value op (resolved_value x env) (resolved_value f env)) left
-    ∙ (ap (λ x. binary_value op (resolved_value a env) (resolved_value x env)) right ∙ sym (ap (λ x. resolved_value x env) is))
+-- what holds of the value that a variable has in a case, of the stored members of its set
+pub set_members : (s : Value) (u : Unfolding) (o : Option (Bor (List Stored))) (ms : Bor (List Stored)) → IfSome o (λ (xs : Bor (List Stored)). HoldMembers u xs.now s) → o ≡ Some ms →
+    HoldMembers u ms.now s
+set_members s u o ms h is = subst (λ p. IfSome p (λ (xs : Bor (List Stored)). HoldMembers u xs.now s)) is h
+
+pub most_more : (u : Unfolding) (sets : List Member) (i most new count : ℕ) → MostSoFar u sets i most → most ≤ new → count ≤ new → 0 < count →
+    ((m : Mode) (n : ℕ) (s : Value) → IsVaried (nth m n i) u sets s → count ≡ length (members s)) → MostSoFar u sets (i + 1) new
+most_more u sets i most new count h wider within some is = record {
+  some = omega (arith, h.some, wider);
+  each = λ m n j s inside varied. by m n j s varied (or_last j i inside);
+}
+  where
+    by : (m : Mode) (n j : ℕ) (s : Value) → IsVaried (nth m n j) u sets s → (j < i) ⊎ (j ≡ i) → (0 < length (members s)) × (length (members s) ≤ new)
+    by m n j s varied (inl inside) =
+        let g = h.each m n j s inside varied in
+        (g.0, omega (arith, g.1, wider))
+    by m n j s varied (inr last) =
+        let same = is m n s (subst (λ k. IsVaried (nth m n k) u sets s) last varied) in
+        (omega (arith, same, some), omega (arith, same, within))

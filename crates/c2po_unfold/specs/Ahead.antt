@@ -1,27 +1,30 @@
 -- What is known of an expression for several values of a variable at once.
 
-use Rattle.std.specs.Prelude.{ℕ, ◌≡◌, ◌+◌, ◌<◌, Option, Some, ◌∷◌, slice_get}
+use Rattle.std.specs.Prelude.{ℕ, ◌≡◌, ◌+◌, ◌*◌, ◌<◌, Option, Some, None, List, length, map, sum_by, slice_get}
 use Rattle.c2po_unfold.specs.declared.each.Each.{Each}
 use Rattle.c2po_unfold.specs.declared.each.Each.TheVariants.{Same, Own}
-use Rattle.c2po_unfold.specs.declared.each.Members.{Members}
 use Rattle.c2po_unfold.specs.declared.known.Ahead.{Ahead}
 use Rattle.c2po_unfold.specs.declared.known.Known.{Known}
 use Rattle.c2po_unfold.specs.declared.resolved.Quantified.{Quantified}
 use Rattle.c2po_unfold.specs.declared.resolved.Resolved.{Resolved}
+use Rattle.c2po_unfold.specs.declared.resolved.Row.{Row}
+use Rattle.c2po_unfold.specs.declared.scope.Member.{Member}
 use Rattle.c2po_unfold.specs.declared.scope.Head.{Head}
 use Rattle.c2po_unfold.specs.declared.scope.Scope.{Scope}
 use Rattle.c2po_unfold.specs.declared.summary.Summary.{Summary}
 use Rattle.c2po_unfold.specs.declared.unfolding.Unfolding.{Unfolding}
-use Rattle.c2po_unfold.specs.declared.values.Stored.{Stored}
-use Rattle.c2po_unfold.specs.Bodies.{AreOfBody, IsOfBody, MeetsBody}
-use Rattle.c2po_unfold.specs.Covering.{Mode}
+use Rattle.c2po_unfold.specs.Bodies.{AreOfBody, IsOfBody, MeetsBody, MeetsBodyIn}
+use Rattle.c2po_unfold.specs.Cases.{IsMember, nth}
+use Rattle.c2po_unfold.specs.Covering.{Mode, Says}
+use Rattle.c2po_nodes.specs.Nodes.{formula}
 use Rattle.c2po_unfold.specs.Environment.{Env}
-use Rattle.c2po_unfold.specs.Heads.{Heads}
+use Rattle.c2po_unfold.specs.Heads.{Heads, HeadsIn}
 use Rattle.c2po_unfold.specs.Holding.{Holds}
-use Rattle.c2po_unfold.specs.Resolving.{IsResolved, resolved_body}
-use Rattle.c2po_unfold.specs.Scopes.{Fits, names_of}
-use Rattle.c2po_unfold.specs.Summaries.{IsSummary}
-use Rattle.c2po_unfold.specs.Values.{Value, members}
+use Rattle.c2po_unfold.specs.Resolving.{AllResolved, resolved_body, resolved_value, resolved_values}
+use Rattle.c2po_unfold.specs.Scopes.{FitsIn, MeetsIn, names_of}
+use Rattle.c2po_unfold.specs.Summaries.{IsSummary, gathered}
+use Rattle.c2po_unfold.specs.Values.{Value, formula_of, list_of, members}
+use Rattle.c2po_unfold.specs.Weights.{weight as weight_of}
 
 -- what is known for the value with a number
 abbrev pub known_at : Each → ℕ → Option Summary
@@ -32,19 +35,60 @@ known_at (Own ss) i = slice_get ss.items i
 abbrev pub KnownFor : Mode → Each → ℕ → Value → Type 0
 KnownFor m each i v = (s : Summary) × (known_at each i ≡ Some s) × IsSummary m s v
 
--- variables represent an environment, the names of an expression within them and one more are resolved, and that one has
--- the value of the member with a number
-pub record MeetsMember (m : Mode) (u : Unfolding) (base : Env) (scope : Scope) (env : Env) (of : Members) (e : Resolved) (i : ℕ) (v : Value) : Type 0 where
-  pub fits : Fits m u base scope env
-  pub resolved : IsResolved u base (of.name.now ∷ names_of scope) e
-  pub stored : Stored
-  pub at : slice_get of.members.now i ≡ Some stored
-  pub holds : Holds u stored v
+-- what is known of bodies together: what they weigh, and the fault and the tenses of one of them
+pub record IsGathered (m : Mode) (s : Summary) (vs : List Value) : Type 0 where
+  pub weight : s.weight ≡ sum_by weight_of vs
+  pub fact : Says m s.fact (Some (formula (gathered (map formula_of vs))))
 
--- what is known of bodies that were checked together is so for the members of the set from the first of them on
+-- the same for the value with a number
+abbrev pub GatheredFor : Mode → Each → ℕ → List Value → Type 0
+GatheredFor m each i vs = (s : Summary) × (known_at each i ≡ Some s) × IsGathered m s vs
+
+-- a row whose member is a value leads to another value
+abbrev pub RowsLead : Unfolding → List Row → Value → Value → Type 0
+RowsLead u rows w v = (k : ℕ) (r : Row) → slice_get rows k ≡ Some r → Holds u r.member w → Holds u r.found v
+
+-- what is known of bodies that were checked together is so in each of n cases: member after member from the first of
+-- them on, each in all cases
+pub record IsAheadIn (u : Unfolding) (scope : Scope) (q : Quantified) (set : Head) (n : ℕ) (ahead : Ahead) :
+    Type 0 where
+  pub holds : (m : Mode) (base env : Env) (i j : ℕ) (s v : Value) → i < n
+      → MeetsBodyIn (nth m n i) u base scope env q → HeadsIn (nth m n i) u base set s
+      → j < ahead.count → slice_get (members s) (ahead.start + j) ≡ Some v
+      → KnownFor m ahead.each (i + n * j) (resolved_body q env v)
+
+-- the same where the set is one of these expressions
+pub record IsOpenAhead (u : Unfolding) (scope within : Scope) (q : Quantified) (es : List Resolved) (n : ℕ)
+    (ahead : Ahead) : Type 0 where
+  pub holds : (m : Mode) (base around env : Env) (i j : ℕ) (v : Value) → i < n
+      → MeetsBodyIn (nth m n i) u base scope env q → FitsIn (nth m n i) u base within around
+      → AllResolved u base (names_of within) es → j < ahead.count
+      → slice_get (list_of (resolved_values es around)) (ahead.start + j) ≡ Some v
+      → KnownFor m ahead.each (i + n * j) (resolved_body q env v)
+
+-- a value is that of the member with a number
+abbrev pub HasMember : Mode → Unfolding → List Member → ℕ → Value → Type 0
+HasMember m u ms i v = (x : Member) × (slice_get ms i ≡ Some x) × IsMember m u x v
+
+-- after other members there is what is known in each of n cases
+pub record IsListed (each : Each) (n : ℕ) (old new : List Member) : Type 0 where
+  pub count : length new ≡ length old + n
+  pub kept : (k : ℕ) (x : Member) → slice_get old k ≡ Some x → slice_get new k ≡ Some x
+  pub listed : (i : ℕ) → i < n → (x : Member) × (slice_get new (length old + i) ≡ Some x)
+      × (known_at each i ≡ Some x.summary) × (x.stored ≡ None)
+
+-- members say what is known of the first t expressions in each of n cases, one expression after the other
+pub record AreListed (u : Unfolding) (scope : Scope) (n : ℕ) (es : List Resolved) (t : ℕ) (all : List Member) :
+    Type 0 where
+  pub count : length all ≡ n * t
+  pub each : (m : Mode) (base env : Env) (i j : ℕ) (e : Resolved) → i < n → j < t → slice_get es j ≡ Some e
+      → MeetsIn (nth m n i) u base scope env e → HasMember m u all (i + n * j) (resolved_value e env)
+
+-- the same where each variable has one value
 pub record IsAhead (u : Unfolding) (scope : Scope) (q : Quantified) (set : Head) (ahead : Ahead) : Type 0 where
-  pub holds : (m : Mode) (base env : Env) (s v : Value) (j : ℕ) (k : Summary) → MeetsBody m u base scope env q → Heads m u base set s
-      → j < ahead.count → known_at ahead.each j ≡ Some k → slice_get (members s) (ahead.start + j) ≡ Some v
+  pub holds : (m : Mode) (base env : Env) (s v : Value) (j : ℕ) (k : Summary)
+      → MeetsBody m u base scope env q → Heads m u base set s → j < ahead.count → known_at ahead.each j ≡ Some k
+      → slice_get (members s) (ahead.start + j) ≡ Some v
       → IsSummary m k (resolved_body q env v)
 
 -- what is known of a quantifier's bodies is so

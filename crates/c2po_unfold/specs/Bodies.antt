@@ -10,15 +10,22 @@ use Rattle.c2po_unfold.specs.Values.{Value}
 use Rattle.c2po_unfold.specs.Environment.{Env}
 use Rattle.c2po_unfold.specs.Holding.{Holds}
 use Rattle.c2po_unfold.specs.Resolving.{IsResolved, resolved_body}
-use Rattle.c2po_unfold.specs.Scopes.{Fits, Meets, names_of}
+use Rattle.c2po_unfold.specs.Scopes.{FitsIn, Meets, names_of}
 use Rattle.c2po_unfold.specs.Summaries.{IsSummary, IsOfLeaf}
+use Rattle.c2po_unfold.specs.Cases.{Case, only}
 use Rattle.c2po_unfold.specs.Covering.{Mode, covering}
 use Rattle.c2po_unfold.specs.declared.summary.Summary.{Summary}
 
--- variables represent an environment, and the names of a quantifier's body within them and its own are resolved
-pub record MeetsBody (m : Mode) (u : Unfolding) (base : Env) (scope : Scope) (env : Env) (q : Quantified) : Type 0 where
-  pub fits : Fits m u base scope env
+-- variables represent an environment in a case, and the names of a quantifier's body, its own variable among them, are
+-- resolved
+pub record MeetsBodyIn (c : Case) (u : Unfolding) (base : Env) (scope : Scope) (env : Env) (q : Quantified) :
+    Type 0 where
+  pub fits : FitsIn c u base scope env
   pub resolved : IsResolved u base (q.name.now ∷ names_of scope) q.body.now
+
+-- the same where each variable has one value
+abbrev pub MeetsBody : Mode → Unfolding → Env → Scope → Env → Quantified → Type 0
+MeetsBody m = MeetsBodyIn (only m)
 
 -- the same, and the names of the set are resolved too
 pub record MeetsAll (m : Mode) (u : Unfolding) (base : Env) (scope : Scope) (env : Env) (q : Quantified) : Type 0 where

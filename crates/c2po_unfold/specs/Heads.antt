@@ -15,17 +15,19 @@ use Rattle.c2po_unfold.specs.Values.{Value, leaf, structure, set, built, grouped
 use Rattle.c2po_unfold.specs.Environment.{Env}
 use Rattle.c2po_unfold.specs.Holding.{Holds, HoldAll}
 use Rattle.c2po_unfold.specs.Resolving.{AllResolved, IsResolved, is_operation, resolved_value, resolved_values}
-use Rattle.c2po_unfold.specs.Scopes.{Fits, names_of}
+use Rattle.c2po_unfold.specs.Scopes.{FitsIn, names_of}
+use Rattle.c2po_unfold.specs.Cases.{Case, only, mode_in, IsVaried}
 use Rattle.c2po_unfold.specs.Covering.{Mode}
 use Rattle.c2po_unfold.specs.Summaries.{IsOfLeaf}
 
--- what was found for a variable is its value
-abbrev pub IsLed : Mode → Unfolding → Env → Led → Value → Type 0
-IsLed m u base led.Nowhere v = ⊥
-IsLed m u base (led.Open scope e) v = (env : Env) × Fits m u base scope.now env
+-- what was found for a variable is its value in a case
+abbrev pub IsLed : Case → Unfolding → Env → Led → Value → Type 0
+IsLed c u base led.Nowhere v = ⊥
+IsLed c u base (led.Open scope e) v = (env : Env) × FitsIn c u base scope.now env
     × IsResolved u base (names_of scope.now) e.now × (v ≡ resolved_value e.now env)
-IsLed m u base (led.Held s i) v = Holds u s v
-IsLed m u base (led.Covered s) v = IsOfLeaf m s.now v
+IsLed c u base (led.Held s i) v = Holds u s v
+IsLed c u base (led.Covered s) v = IsOfLeaf (mode_in c) s.now v
+IsLed c u base (led.Varied ms) v = IsVaried c u ms.now v
 
 -- an expression as it is read: a number, a Boolean, an operator or a quantifier
 abbrev pub is_operator : Shape → Bool
@@ -50,19 +52,24 @@ IsOf u s x = (i : ℕ) × (ss : List Stored) × (s.location ≡ PartsAt i)
 abbrev pub IsOther : Unfolding → Stored → Type 0
 IsOther u s = (fields : List ℕ → List (List ℕ)) (f : List ℕ) (v : Value) → Holds u s v → picked fields f v ≡ v
 
--- a head has a value
-abbrev pub Heads : Mode → Unfolding → Env → Head → Value → Type 0
-Heads m u base (head.Nothing scope e) v = ⊥
-Heads m u base (head.Struct scope e x es) v =
-    (env : Env) × Fits m u base scope.now env × IsResolved u base (names_of scope.now) e.now
+-- a head has a value in a case
+abbrev pub HeadsIn : Case → Unfolding → Env → Head → Value → Type 0
+HeadsIn c u base (head.Nothing scope e) v = ⊥
+HeadsIn c u base (head.Struct scope e x es) v =
+    (env : Env) × FitsIn c u base scope.now env × IsResolved u base (names_of scope.now) e.now
     × (v ≡ resolved_value e.now env) × AllResolved u base (names_of scope.now) es.now
     × (v ≡ built x.now (resolved_values es.now env))
-Heads m u base (head.Set scope e es) v =
-    (env : Env) × Fits m u base scope.now env × IsResolved u base (names_of scope.now) e.now
+HeadsIn c u base (head.Set scope e es) v =
+    (env : Env) × FitsIn c u base scope.now env × IsResolved u base (names_of scope.now) e.now
     × (v ≡ resolved_value e.now env) × AllResolved u base (names_of scope.now) es.now
     × (v ≡ grouped (resolved_values es.now env))
-Heads m u base (head.Leaf scope e) v =
-    (env : Env) × Fits m u base scope.now env × IsResolved u base (names_of scope.now) e.now
+HeadsIn c u base (head.Leaf scope e) v =
+    (env : Env) × FitsIn c u base scope.now env × IsResolved u base (names_of scope.now) e.now
     × (v ≡ resolved_value e.now env) × (is_operation e.now ≡ true)
-Heads m u base (head.Held s) v = Holds u s v
-Heads m u base (head.Covered s) v = IsOfLeaf m s.now v
+HeadsIn c u base (head.Held s) v = Holds u s v
+HeadsIn c u base (head.Covered s) v = IsOfLeaf (mode_in c) s.now v
+HeadsIn c u base (head.Varied ms) v = IsVaried c u ms.now v
+
+-- the same where each variable has one value
+abbrev pub Heads : Mode → Unfolding → Env → Head → Value → Type 0
+Heads m = HeadsIn (only m)

@@ -3,6 +3,7 @@ pub mod Weights
 pub mod Environment
 pub mod Resolving
 pub mod Holding
+pub mod Cases
 pub mod Scopes
 pub mod Around
 pub mod Heads

@@ -2,9 +2,10 @@
 
 use Rattle.std.specs.Prelude.{ℕ, ◌≡◌, List, [], ◌∷◌}
 use Rattle.c2po_unfold.specs.declared.resolved.Resolved.{Resolved}
-use Rattle.c2po_unfold.specs.declared.scope.Scope.{Scope, Top, Open', Held', Covered'}
+use Rattle.c2po_unfold.specs.declared.scope.Scope.{Scope, Top, Open', Held', Covered', Varied'}
 use Rattle.c2po_unfold.specs.declared.unfolding.Unfolding.{Unfolding}
 use Rattle.c2po_unfold.specs.Values.{Value}
+use Rattle.c2po_unfold.specs.Cases.{Case, only, mode_in, IsVaried}
 use Rattle.c2po_unfold.specs.Covering.{Mode}
 use Rattle.c2po_unfold.specs.Environment.{Env, bind}
 use Rattle.c2po_unfold.specs.Holding.{Holds, StandsFor}
@@ -17,19 +18,31 @@ names_of Top = []
 names_of (Open' x e _ within _ outer) = x.now ∷ names_of outer
 names_of (Held' x s i _ outer) = x.now ∷ names_of outer
 names_of (Covered' x s _ outer) = x.now ∷ names_of outer
+names_of (Varied' x ms _ outer) = x.now ∷ names_of outer
 
--- variables within an unfolding represent an environment, over the meanings of declared names
-abbrev pub Fits : Mode → Unfolding → Env → Scope → Env → Type 0
-Fits m u base Top env = StandsFor u base × (env ≡ base)
-Fits m u base (Open' x e _ within _ outer) env =
-    (inner : Env) × (around : Env) × Fits m u base within inner × IsResolved u base (names_of within) e.now
-    × Fits m u base outer around × (env ≡ bind x.now (resolved_value e.now inner) around)
-Fits m u base (Held' x s i _ outer) env =
-    (v : Value) × (around : Env) × Holds u s v × Fits m u base outer around × (env ≡ bind x.now v around)
-Fits m u base (Covered' x s _ outer) env =
-    (v : Value) × (around : Env) × IsOfLeaf m s.now v × Fits m u base outer around × (env ≡ bind x.now v around)
+-- variables within an unfolding represent an environment in a case, over the meanings of declared names
+abbrev pub FitsIn : Case → Unfolding → Env → Scope → Env → Type 0
+FitsIn c u base Top env = StandsFor u base × (env ≡ base)
+FitsIn c u base (Open' x e _ within _ outer) env =
+    (inner : Env) × (around : Env) × FitsIn c u base within inner × IsResolved u base (names_of within) e.now
+    × FitsIn c u base outer around × (env ≡ bind x.now (resolved_value e.now inner) around)
+FitsIn c u base (Held' x s i _ outer) env =
+    (v : Value) × (around : Env) × Holds u s v × FitsIn c u base outer around × (env ≡ bind x.now v around)
+FitsIn c u base (Covered' x s _ outer) env =
+    (v : Value) × (around : Env) × IsOfLeaf (mode_in c) s.now v × FitsIn c u base outer around
+    × (env ≡ bind x.now v around)
+FitsIn c u base (Varied' x ms _ outer) env =
+    (v : Value) × (around : Env) × IsVaried c u ms.now v × FitsIn c u base outer around × (env ≡ bind x.now v around)
 
 -- the same, and the names of an expression within them are resolved
-pub record Meets (m : Mode) (u : Unfolding) (base : Env) (scope : Scope) (env : Env) (e : Resolved) : Type 0 where
-  pub fits : Fits m u base scope env
+pub record MeetsIn (c : Case) (u : Unfolding) (base : Env) (scope : Scope) (env : Env) (e : Resolved) : Type 0 where
+  pub fits : FitsIn c u base scope env
   pub resolved : IsResolved u base (names_of scope) e
+
+-- the same where each variable has one value
+abbrev pub Fits : Mode → Unfolding → Env → Scope → Env → Type 0
+Fits m = FitsIn (only m)
+
+-- the same of the names of an expression
+abbrev pub Meets : Mode → Unfolding → Env → Scope → Env → Resolved → Type 0
+Meets m = MeetsIn (only m)

@@ -5,14 +5,41 @@ ghost use Rattle.mltl_base.specs.Formula.{Formula};
 ghost use Rattle.count_sets.specs.Counting.{counting};
 ghost use Rattle.c2po_unfold.specs.Covering.{Mode, Says};
 ghost use Rattle.c2po_nodes.specs.Nodes.{formula};
-ghost use Rattle.c2po_unfold.specs.Summaries.{asks_bodies, gathered};
-ghost use Rattle.c2po_unfold.specs.Values.{counted_formula};
+ghost use Rattle.c2po_unfold.specs.Ahead.{IsGathered};
+ghost use Rattle.c2po_unfold.specs.Summaries.{IsSummary, asks_bodies, gathered};
+ghost use Rattle.c2po_unfold.specs.Values.{Value, counted, counted_formula};
 ghost use Rattle.c2po_unfold.specs.Weights.{counting_weight};
 
 use crate::UnfoldFault;
 use crate::fact::Fact;
 use crate::room::Room;
+use crate::summary::Summary;
 use mltl_base::CountOp;
+
+/// A counting quantifier over so many members.
+#[derive(Clone, Copy)]
+pub(crate) struct Counting {
+    pub op: CountOp,
+    pub number: u64,
+    pub members: usize,
+}
+
+impl Counting {
+    /// Returns what is known of it by what is known of its bodies together, and `Heavy` where it weighs more than the room.
+    pub(crate) fn of(self, bodies: &Summary, room: Room) -> Result<Summary, UnfoldFault>
+        ensures { (m : Mode) (vs : Seq Value) → self.members ≡ length vs → 0 < length vs
+            → IsGathered m bodies.now vs
+            → IfOk result (λ s. IsSummary m s (counted self.op self.number vs)) }
+    {
+        let left = room.less(bodies.weight)?;
+        let gates = gates_weight(self.members, self.number, left)?;
+        let fact = counted_fact(self.op, self.members, self.number, bodies.fact);
+        Ok(Summary {
+            weight: bodies.weight + gates,
+            fact,
+        })
+    }
+}
 
 /// Returns the weight of a counting quantifier over `n` bodies without those.
 pub(crate) fn gates_weight(n: usize, number: u64, room: Room) -> Result<u32, UnfoldFault>

@@ -4,12 +4,13 @@ ghost use Rattle.std.specs.Prelude.{◌≡◌, ℕ, List, MatchOption, Some, IfS
 ghost use Rattle.std.specs.Str.{bytes_eq};
 ghost use Rattle.c2po_unfold.specs.declared.resolved.Row.{Row as Line};
 ghost use Rattle.c2po_unfold.specs.declared.fault.UnfoldFault.TheVariants.{Memory};
+ghost use Rattle.c2po_unfold.specs.Cases.{Case};
 ghost use Rattle.c2po_unfold.specs.Covering.{Mode};
 ghost use Rattle.c2po_unfold.specs.Environment.{Env, fields_in, value_in};
-ghost use Rattle.c2po_unfold.specs.Heads.{Heads, HoldMembers, IsLed, IsOf, IsOther};
+ghost use Rattle.c2po_unfold.specs.Heads.{Heads, HeadsIn, HoldMembers, IsLed, IsOf, IsOther};
 ghost use Rattle.c2po_unfold.specs.Holding.{Holds, StandsFor};
 ghost use Rattle.c2po_unfold.specs.Resolving.{IsBound, IsPlace, resolved_value};
-ghost use Rattle.c2po_unfold.specs.Scopes.{Fits, Meets, names_of};
+ghost use Rattle.c2po_unfold.specs.Scopes.{FitsIn, MeetsIn, names_of};
 ghost use Rattle.c2po_unfold.specs.declared.unfolding.Unfolding.{Unfolding};
 ghost use Rattle.c2po_unfold.specs.Values.{Value, members, picked};
 
@@ -22,9 +23,9 @@ use mltl_base::Name;
 
 impl<'a> Scope<'a> {
     /// What a variable leads to.
-    fn variable(&'a self, name: &Name) -> Led<'a>
-        ensures { (m : Mode) (u : Unfolding) (base env : Env) → Fits m u base self.now env
-            → IsBound (names_of self.now) name.now → IsLed m u base result (value_in (env name.now)) }
+    pub(crate) fn variable(&'a self, name: &Name) -> Led<'a>
+        ensures { (c : Case) (u : Unfolding) (base env : Env) → FitsIn c u base self.now env
+            → IsBound (names_of self.now) name.now → IsLed c u base result (value_in (env name.now)) }
     {
         match self {
             Scope::Top => Led::Nowhere,
@@ -45,15 +46,21 @@ impl<'a> Scope<'a> {
                 summary,
                 ..
             } if name.bytes() == own.bytes() => Led::Covered(summary),
+            Scope::Varied {
+                name: own,
+                members,
+                ..
+            } if name.bytes() == own.bytes() => Led::Varied(members),
             Scope::Open { outer, .. } => outer.variable(name),
             Scope::Held { outer, .. } => outer.variable(name),
             Scope::Covered { outer, .. } => outer.variable(name),
+            Scope::Varied { outer, .. } => outer.variable(name),
         }
     }
 
     /// What a column has for a variable's value, where that is one of its members.
     pub(crate) fn found(&'a self, name: &Name, rows: &[Row]) -> Option<Stored>
-        ensures { (m : Mode) (u : Unfolding) (base env : Env) → Fits m u base self.now env
+        ensures { (c : Case) (u : Unfolding) (base env : Env) → FitsIn c u base self.now env
             → IsBound (names_of self.now) name.now → IfSome result (λ t. (r : Line) × (i : ℕ)
             × (slice_get rows.now i ≡ Some r)
             × Holds u r.member (value_in (env name.now)) × (t ≡ r.found)) }
@@ -85,14 +92,15 @@ impl Unfolding {
 
     /// The place of a field among those of a struct: a variable of the struct's name hides it.
     fn field_place(&self, scope: &Scope<'_>, whole: &Name, field: &Name) -> Option<usize>
-        ensures { (m : Mode) (base env : Env) → Fits m self.now base scope.now env
+        ensures { (c : Case) (base env : Env) → FitsIn c self.now base scope.now env
             → result ≡ position (bytes_eq field.now) (fields_in (env whole.now)) }
     {
         match scope {
             Scope::Top => self.declared_place(whole, field),
             Scope::Open { name, outer, .. }
             | Scope::Held { name, outer, .. }
-            | Scope::Covered { name, outer, .. } => {
+            | Scope::Covered { name, outer, .. }
+            | Scope::Varied { name, outer, .. } => {
                 if whole.bytes() == name.bytes() {
                     None
                 } else {
@@ -110,7 +118,7 @@ impl Unfolding {
         field: &Name,
         hint: &Hint,
     ) -> Option<usize>
-        ensures { (m : Mode) (base env : Env) → Fits m self.now base scope.now env
+        ensures { (c : Case) (base env : Env) → FitsIn c self.now base scope.now env
             → IsPlace base (names_of scope.now) field.now hint.now
             → result ≡ position (bytes_eq field.now) (fields_in (env whole.now)) }
     {
@@ -155,7 +163,7 @@ impl Unfolding {
 
     /// The part of a stored struct's value that a field names; another value is its own part.
     fn held_part(&self, scope: &Scope<'_>, stored: Stored, field: &Name, hint: &Hint) -> Stored
-        ensures { (m : Mode) (base env : Env) (v : Value) → Fits m self.now base scope.now env
+        ensures { (c : Case) (base env : Env) (v : Value) → FitsIn c self.now base scope.now env
             → IsPlace base (names_of scope.now) field.now hint.now → Holds self.now stored v
             → Holds self.now result (picked (λ y. fields_in (env y)) field.now v) }
     {
@@ -176,8 +184,8 @@ impl Unfolding {
         scope: &'a Scope<'a>,
         e: &'a Resolved,
     ) -> Result<Head<'a>, UnfoldFault>
-        ensures head { (m : Mode) (base env : Env) → Meets m self.now base scope.now env e.now
-            → IfOk result (λ h. Heads m self.now base h (resolved_value e.now env)) }
+        ensures head { (c : Case) (base env : Env) → MeetsIn c self.now base scope.now env e.now
+            → IfOk result (λ h. HeadsIn c self.now base h (resolved_value e.now env)) }
         ensures memory { IfErr result (λ why. why ≡ Memory) }
     {
         match e {
@@ -189,6 +197,7 @@ impl Unfolding {
                 }
                 Led::Held(stored, _) => Ok(Head::Held(stored)),
                 Led::Covered(summary) => Ok(Head::Covered(summary)),
+                Led::Varied(members) => Ok(Head::Varied(members)),
                 Led::Nowhere => Ok(Head::Nothing(scope, e)),
             },
             Resolved::Column(e, name, rows) => match scope.found(name, rows.as_slice()) {
@@ -219,10 +228,11 @@ impl Unfolding {
         field: &Name,
         hint: &Hint,
     ) -> Result<Head<'a>, UnfoldFault>
-        ensures head { (m : Mode) (base env : Env) (v : Value) → Fits m self.now base scope.now env
+        ensures head { (c : Case) (base env : Env) (v : Value)
+            → FitsIn c self.now base scope.now env
             → IsPlace base (names_of scope.now) field.now hint.now
-            → Heads m self.now base whole.entry v → IfOk result
-            (λ h. Heads m self.now base h (picked (λ y. fields_in (env y)) field.now v)) }
+            → HeadsIn c self.now base whole.entry v → IfOk result
+            (λ h. HeadsIn c self.now base h (picked (λ y. fields_in (env y)) field.now v)) }
         ensures memory { IfErr result (λ why. why ≡ Memory) }
     {
         let levels = deeper(levels)?;
@@ -237,6 +247,7 @@ impl Unfolding {
                 }
             }
             Head::Held(stored) => Ok(Head::Held(self.held_part(scope, stored, field, hint))),
+            Head::Varied(_) => Ok(Head::Varied(&[])),
             Head::Nothing(..) | Head::Set(..) | Head::Leaf(..) | Head::Covered(_) => Ok(whole),
         }
     }
@@ -251,6 +262,23 @@ impl Unfolding {
             Head::Set(_, _, members) => members.len(),
             Head::Held(stored) => self.held_members(stored).len(),
             Head::Nothing(..) | Head::Struct(..) | Head::Leaf(..) | Head::Covered(_) => 0,
+            Head::Varied(_) => 0,
+        }
+    }
+
+    /// The number of members of a set, if it is the same in each case.
+    pub(crate) fn shared_count(&self, set: &Head<'_>) -> Option<usize>
+        ensures { (c : Case) (base : Env) (v : Value) → HeadsIn c self.now base set.now v
+            → IfSome result (λ count. count ≡ length (members v)) }
+    {
+        match *set {
+            Head::Set(_, _, members) => Some(members.len()),
+            Head::Held(stored) => Some(self.held_members(stored).len()),
+            Head::Nothing(..)
+            | Head::Struct(..)
+            | Head::Leaf(..)
+            | Head::Covered(_)
+            | Head::Varied(_) => None,
         }
     }
 
@@ -279,12 +307,13 @@ impl Unfolding {
         set: &Head<'a>,
         i: usize,
     ) -> Result<Head<'a>, UnfoldFault>
-        ensures head { (m : Mode) (base : Env) (s v : Value) → Heads m self.now base set.now s
+        ensures head { (c : Case) (base : Env) (s v : Value) → HeadsIn c self.now base set.now s
             → slice_get (members s) i ≡ Some v
-            → IfOk result (λ h. Heads m self.now base h v) }
+            → IfOk result (λ h. HeadsIn c self.now base h v) }
         ensures memory { IfErr result (λ why. why ≡ Memory) }
     {
         match *set {
+            Head::Varied(_) => Ok(Head::Varied(&[])),
             Head::Set(within, _, members) => match members.get(i) {
                 Some(expr) => self.head(levels, within, expr),
                 None => Ok(*set),

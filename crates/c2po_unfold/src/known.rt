@@ -37,6 +37,17 @@ pub(crate) struct Ahead {
     pub each: Each,
 }
 
+/// Which bodies are still checked together.
+#[derive(Clone, Copy)]
+pub(crate) enum Way {
+    /// Those without a quantifier within.
+    Plain,
+    /// All.
+    Nested,
+    /// None.
+    Alone,
+}
+
 /// What is known of the bodies of a quantifier so far.
 #[derive(Drop)]
 pub(crate) struct Known {
@@ -44,10 +55,24 @@ pub(crate) struct Known {
     pub last: BodyFact,
     /// Those that were checked together.
     pub ahead: Ahead,
-    /// Whether they aren't checked together from now on.
-    pub alone: bool,
+    pub way: Way,
     /// Those for members that were only known to be of a kind.
     pub kinds: Vec<BodyFact>,
+}
+
+impl Way {
+    /// Whether bodies with quantifiers within are checked together.
+    pub(crate) fn is_nested(self) -> bool {
+        matches!(self, Way::Nested)
+    }
+
+    /// Which are checked together where that failed.
+    pub(crate) fn further(self) -> Way {
+        match self {
+            Way::Plain => Way::Nested,
+            Way::Nested | Way::Alone => Way::Alone,
+        }
+    }
 }
 
 /// What is known of the body for members of a kind, if it is.
@@ -122,6 +147,18 @@ impl BodyFact {
 }
 
 impl Ahead {
+    /// Nothing is known of any body.
+    pub(crate) fn none() -> Ahead
+        ensures start { result.start ≡ 0 }
+        ensures count { result.count ≡ 0 }
+    {
+        Ahead {
+            start: 0,
+            count: 0,
+            each: Each::Same(Summary::none()),
+        }
+    }
+
     /// What is known of the body for a member of the set, if it was checked together with others.
     #[inline(always)]
     pub(crate) fn at(&self, i: usize) -> Option<Summary>
@@ -145,15 +182,10 @@ impl Known {
         ensures ahead { result.ahead.count ≡ 0 }
         ensures kinds { result.kinds.items ≡ [] }
     {
-        let ahead = Ahead {
-            start: 0,
-            count: 0,
-            each: Each::Same(Summary::none()),
-        };
         Known {
             last: BodyFact::none(),
-            ahead,
-            alone: false,
+            ahead: Ahead::none(),
+            way: Way::Plain,
             kinds: Vec::new(alloc),
         }
     }

@@ -10,7 +10,7 @@ ghost use Rattle.c2po_unfold.specs.Environment.{Env, bind, fields_in, value_in, 
 ghost use Rattle.c2po_unfold.specs.Holding.{Holds, StandsFor};
 ghost use Rattle.c2po_unfold.specs.Operators.{binary_value, unary_value};
 ghost use Rattle.c2po_unfold.specs.Resolving.{Agree, AllResolved, AreRows, ArePicked, HasPart, IsBound, IsFree, IsPlace, IsResolved, resolved_value, resolved_values};
-ghost use Rattle.c2po_unfold.specs.Values.{Value, built, connected_all, members, picked};
+ghost use Rattle.c2po_unfold.specs.Values.{Value, built, connected_all, counted, grouped, members, picked};
 
 use crate::Unfolding;
 use crate::operators::{BinaryOp, UnaryOp};
@@ -19,7 +19,7 @@ use crate::samples::Sample;
 use crate::values::{Entry, Location, Stored, Whole};
 use c2po_ast::{Expr, Node};
 use mltl_base::limits::MAX_WEIGHT;
-use mltl_base::{LogicOp, Name};
+use mltl_base::{CountOp, LogicOp, Name};
 use std::alloc::{AllocError, Global};
 
 /// The variables around an expression whose names are being resolved, the innermost first.
@@ -122,7 +122,7 @@ impl Maker {
 }
 
 impl Unfolding {
-    /// Resolves the names of an expression.
+    /// Resolves the names of an expression. What it calls stays out of line, so that a level of it takes little stack.
     #[cycle(resolving)]
     pub(crate) fn resolve(
         &self,
@@ -140,18 +140,9 @@ impl Unfolding {
             Node::Number(n) => Ok(Resolved::Number(*n)),
             Node::Truth(truth) => Ok(Resolved::Truth(*truth)),
             Node::Ref(name) => Ok(self.resolve_name(around, name)),
-            Node::Build(name, parts) => {
-                let parts = self.resolve_all(maker, around, parts.as_slice())?;
-                Ok(Resolved::Build(name.copy(), parts))
-            }
-            Node::Group(members) => {
-                let members = self.resolve_all(maker, around, members.as_slice())?;
-                Ok(Resolved::Group(members))
-            }
-            Node::Pick(whole, field) => {
-                let whole = self.resolve(maker, around, whole)?;
-                self.pick(maker, around, whole, field)
-            }
+            Node::Build(name, parts) => self.resolve_struct(maker, around, name, parts.as_slice()),
+            Node::Group(members) => self.resolve_set(maker, around, members.as_slice()),
+            Node::Pick(whole, field) => self.resolve_field(maker, around, whole, field),
             Node::Minus(a) => self.operand(maker, around, UnaryOp::Minus, a),
             Node::Not(a) => self.operand(maker, around, UnaryOp::Not, a),
             Node::Window(op, low, high, a) => {
@@ -166,14 +157,13 @@ impl Unfolding {
             Node::Each(name, set, body) => self.join(maker, around, LogicOp::And, name, set, body),
             Node::Exists(name, set, body) => self.join(maker, around, LogicOp::Or, name, set, body),
             Node::Count(op, name, set, number, body) => {
-                let set = self.resolve_boxed(maker, around, set)?;
-                let body = self.resolve_body(maker, around, name, body, &set)?;
-                Ok(Resolved::Counted(*op, *number, name.copy(), set, body))
+                self.count(maker, around, *op, *number, name, set, body)
             }
         }
     }
 
     /// Resolves a name: one without a value is false.
+    #[inline(never)]
     fn resolve_name(&self, around: &Around<'_>, name: &Name) -> Resolved
         ensures resolved { (base : Env) → StandsFor self.now base
             → IsResolved self.now base (names_around around.now) result }
@@ -190,8 +180,68 @@ impl Unfolding {
         }
     }
 
+    /// Resolves the names in the fields of a struct's value.
+    #[cycle(resolving)]
+    #[inline(never)]
+    fn resolve_struct(
+        &self,
+        maker: &mut Maker,
+        around: &Around<'_>,
+        name: &Name,
+        parts: &[Expr],
+    ) -> Result<Resolved, AllocError>
+        ensures resolved { (base : Env) → StandsFor self.now base
+            → IfOk result (IsResolved self.now base (names_around around.now)) }
+        ensures value { (base env : Env) → StandsFor self.now base
+            → Agree (names_around around.now) base env → IfOk result (λ r. resolved_value r env
+            ≡ built name.now (values_of (shapes parts.now) env)) }
+    {
+        let parts = self.resolve_all(maker, around, parts)?;
+        Ok(Resolved::Build(name.copy(), parts))
+    }
+
+    /// Resolves the names in the elements of a set.
+    #[cycle(resolving)]
+    #[inline(never)]
+    fn resolve_set(
+        &self,
+        maker: &mut Maker,
+        around: &Around<'_>,
+        members: &[Expr],
+    ) -> Result<Resolved, AllocError>
+        ensures resolved { (base : Env) → StandsFor self.now base
+            → IfOk result (IsResolved self.now base (names_around around.now)) }
+        ensures value { (base env : Env) → StandsFor self.now base
+            → Agree (names_around around.now) base env → IfOk result (λ r. resolved_value r env
+            ≡ grouped (values_of (shapes members.now) env)) }
+    {
+        let members = self.resolve_all(maker, around, members)?;
+        Ok(Resolved::Group(members))
+    }
+
+    /// Resolves the names of an expression, of which a field is picked.
+    #[cycle(resolving)]
+    #[inline(never)]
+    fn resolve_field(
+        &self,
+        maker: &mut Maker,
+        around: &Around<'_>,
+        whole: &Expr,
+        field: &Name,
+    ) -> Result<Resolved, AllocError>
+        ensures resolved { (base : Env) → StandsFor self.now base
+            → IfOk result (IsResolved self.now base (names_around around.now)) }
+        ensures value { (base env : Env) → StandsFor self.now base
+            → Agree (names_around around.now) base env → IfOk result (λ r. resolved_value r env
+            ≡ picked (λ y. fields_in (env y)) field.now (value_of (shape whole.now) env)) }
+    {
+        let whole = self.resolve(maker, around, whole)?;
+        self.pick(maker, around, whole, field)
+    }
+
     /// Resolves the names of expressions in order.
     #[cycle(resolving)]
+    #[inline(never)]
     fn resolve_all(
         &self,
         maker: &mut Maker,
@@ -233,6 +283,7 @@ impl Unfolding {
 
     /// Resolves the names of an operator's operand.
     #[cycle(resolving)]
+    #[inline(never)]
     fn operand(
         &self,
         maker: &mut Maker,
@@ -253,6 +304,7 @@ impl Unfolding {
 
     /// Resolves the names of an operator's two operands.
     #[cycle(resolving)]
+    #[inline(never)]
     fn operands(
         &self,
         maker: &mut Maker,
@@ -274,6 +326,7 @@ impl Unfolding {
 
     /// Resolves the names of a quantifier whose bodies are joined by an operator.
     #[cycle(resolving)]
+    #[inline(never)]
     fn join(
         &self,
         maker: &mut Maker,
@@ -295,8 +348,34 @@ impl Unfolding {
         Ok(Resolved::Joined(op, name.copy(), set, body))
     }
 
+    /// Resolves the names of a quantifier that counts.
+    #[cycle(resolving)]
+    #[inline(never)]
+    fn count(
+        &self,
+        maker: &mut Maker,
+        around: &Around<'_>,
+        op: CountOp,
+        number: u64,
+        name: &Name,
+        set: &Expr,
+        body: &Expr,
+    ) -> Result<Resolved, AllocError>
+        ensures resolved { (base : Env) → StandsFor self.now base
+            → IfOk result (IsResolved self.now base (names_around around.now)) }
+        ensures value { (base env : Env) → StandsFor self.now base
+            → Agree (names_around around.now) base env → IfOk result (λ r. resolved_value r env
+            ≡ counted op number (map (λ v. value_of (shape body.now) (bind name.now v env))
+            (members (value_of (shape set.now) env)))) }
+    {
+        let set = self.resolve_boxed(maker, around, set)?;
+        let body = self.resolve_body(maker, around, name, body, &set)?;
+        Ok(Resolved::Counted(op, number, name.copy(), set, body))
+    }
+
     /// Resolves the names of a quantifier's body, after those of its set.
     #[cycle(resolving)]
+    #[inline(never)]
     fn resolve_body(
         &self,
         maker: &mut Maker,
@@ -324,6 +403,7 @@ impl Unfolding {
     }
 
     /// A field of a resolved expression. Of a struct's value it is the part, and of a stored value it is found.
+    #[inline(never)]
     fn pick(
         &self,
         maker: &mut Maker,

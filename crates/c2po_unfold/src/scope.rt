@@ -2,10 +2,10 @@
 
 ghost use Rattle.std.specs.Prelude.{◌≡◌, ◌∷◌};
 ghost use Rattle.c2po_unfold.specs.declared.unfolding.Unfolding.{Unfolding};
-ghost use Rattle.c2po_unfold.specs.Covering.{Mode};
+ghost use Rattle.c2po_unfold.specs.Cases.{Case};
 ghost use Rattle.c2po_unfold.specs.Environment.{Env, bind};
-ghost use Rattle.c2po_unfold.specs.Heads.{Heads};
-ghost use Rattle.c2po_unfold.specs.Scopes.{Fits, names_of};
+ghost use Rattle.c2po_unfold.specs.Heads.{HeadsIn};
+ghost use Rattle.c2po_unfold.specs.Scopes.{FitsIn, names_of};
 ghost use Rattle.c2po_unfold.specs.Values.{Value};
 
 use crate::resolved::Resolved;
@@ -38,6 +38,21 @@ pub enum Scope<'a> {
         summary: &'a Summary,
         outer: &'a Scope<'a>,
     },
+    /// The variable differs from case to case: these in turn, or any value where none is listed.
+    Varied {
+        name: &'a Name,
+        members: &'a [Member],
+        outer: &'a Scope<'a>,
+    },
+}
+
+/// A member of a set in a case: what is known of it, and the stored value that it is, if it is one.
+#[derive(Clone, Copy)]
+pub struct Member {
+    pub summary: Summary,
+    pub stored: Option<Stored>,
+    /// Which member of the set it is.
+    pub index: usize,
 }
 
 /// Where an expression is: the variables around it, and how deep it may still be nested.
@@ -57,6 +72,8 @@ pub enum Led<'a> {
     Held(Stored, usize),
     /// An integer or a formula of which this is known.
     Covered(&'a Summary),
+    /// A value that differs from case to case: these in turn, or any where none is listed.
+    Varied(&'a [Member]),
 }
 
 /// A value as far as it is looked at: what names and picked fields lead to.
@@ -73,6 +90,8 @@ pub enum Head<'a> {
     Held(Stored),
     /// An integer or a formula of which this is known.
     Covered(&'a Summary),
+    /// A value that differs from case to case: these in turn, or any where none is listed.
+    Varied(&'a [Member]),
 }
 
 impl<'a> Scope<'a> {
@@ -86,9 +105,9 @@ impl<'a> Scope<'a> {
         outer: &'a Scope<'a>,
     ) -> Scope<'a>
         ensures names { names_of result ≡ name.now ∷ names_of outer.now }
-        ensures fits { (m : Mode) (u : Unfolding) (base env : Env) (v : Value)
-            → Fits m u base outer.now env → Heads m u base head.entry v
-            → Fits m u base result (bind name.now v env) }
+        ensures fits { (c : Case) (u : Unfolding) (base env : Env) (v : Value)
+            → FitsIn c u base outer.now env → HeadsIn c u base head.entry v
+            → FitsIn c u base result (bind name.now v env) }
     {
         match head {
             Head::Nothing(within, expr)
@@ -109,6 +128,11 @@ impl<'a> Scope<'a> {
             Head::Covered(summary) => Scope::Covered {
                 name,
                 summary,
+                outer,
+            },
+            Head::Varied(members) => Scope::Varied {
+                name,
+                members,
                 outer,
             },
         }

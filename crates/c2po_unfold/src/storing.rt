@@ -61,7 +61,9 @@ impl Unfolding {
             → IfErr result (λ why. why ≡ Heavy → room < weight v) }
     {
         match head {
-            Head::Nothing(..) => Ok(self.add_leaf(Summary::token(Fact::truth(), room)?)?),
+            Head::Nothing(..) | Head::Varied(_) => {
+                Ok(self.add_leaf(Summary::token(Fact::truth(), room)?)?)
+            }
             Head::Held(stored) => {
                 room.less(stored.weight)?;
                 Ok(stored)
@@ -74,9 +76,8 @@ impl Unfolding {
                 let (members, weight) = self.store_all(alloc, Site { depth, scope }, parts, room)?;
                 Ok(self.add_parts(Whole::Struct(name.copy()), members, weight)?)
             }
-            Head::Set(scope, _, members) => {
-                let within = Site { depth, scope };
-                let (members, weight) = self.store_all(alloc, within, members, room)?;
+            Head::Set(scope, _, all) => {
+                let (members, weight) = self.store_all(alloc, Site { depth, scope }, all, room)?;
                 Ok(self.add_parts(Whole::Set, members, weight)?)
             }
             Head::Leaf(scope, e) => {

@@ -1,6 +1,6 @@
 //! What is known of values without their nodes.
 
-ghost use Rattle.std.specs.Prelude.{◌≡◌, ◌+◌, ◌<◌, ◌≤◌, ◌^◌, ℕ, true, [], ◌∷◌, Some, IfOk, IfErr};
+ghost use Rattle.std.specs.Prelude.{◌≡◌, ◌+◌, ◌<◌, ◌≤◌, ◌^◌, ℕ, true, List as Seq, [], ◌∷◌, ◌++◌, Some, IfOk, IfErr};
 ghost use Rattle.mltl_base.specs.declared.operators.CountOp.{CountOp};
 ghost use Rattle.mltl_base.specs.declared.operators.LogicOp.{LogicOp};
 ghost use Rattle.c2po_unfold.specs.Covering.{Mode, Says, covering};
@@ -8,6 +8,7 @@ ghost use Rattle.c2po_unfold.specs.Facts.{Tells};
 ghost use Rattle.c2po_unfold.specs.declared.fault.UnfoldFault.TheVariants.{Heavy};
 ghost use Rattle.c2po_unfold.specs.Environment.{signal_value};
 ghost use Rattle.c2po_unfold.specs.Operators.{binary_value, unary_value};
+ghost use Rattle.c2po_unfold.specs.Ahead.{IsGathered};
 ghost use Rattle.c2po_unfold.specs.Summaries.{IsOfLeaf, IsSummary};
 ghost use Rattle.c2po_unfold.specs.Values.{Leaf, Value, connected_all, counted, leaf, leaf_tree, tree_in};
 ghost use Rattle.c2po_unfold.specs.Weights.{leaf_weight};
@@ -61,6 +62,28 @@ impl Summary {
             weight: self.weight,
             fact,
         }
+    }
+
+    /// Returns what is known of the bodies of a counting quantifier together with one more.
+    #[inline(always)]
+    pub(crate) fn with(&self, next: &Summary) -> Summary
+        requires { self.now.weight + next.now.weight < 2 ^ 32 }
+        ensures { (m : Mode) (vs : Seq Value) (w : Value) → IsGathered m self.now vs
+            → IsSummary m next.now w → IsGathered m result (vs ++ w ∷ []) }
+    {
+        let fact = Fact::joined(&next.fact, &self.fact);
+        Summary {
+            weight: self.weight + next.weight,
+            fact,
+        }
+    }
+
+    /// Whether this is the same, of a formula without a fault.
+    #[inline(always)]
+    pub(crate) fn is(&self, other: &Summary) -> bool
+        ensures { result ≡ true → self.now ≡ other.now }
+    {
+        self.weight == other.weight && self.fact.is(&other.fact)
     }
 
     /// Whether this covers what is known of another integer or formula.

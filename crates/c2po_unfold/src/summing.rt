@@ -23,7 +23,7 @@ ghost use Rattle.c2po_unfold.specs.Weights.{parts_weight, weight};
 use crate::counting::{counted_fact, gates_weight};
 use crate::fact::Fact;
 use crate::fault::deeper;
-use crate::known::{BodyFact, Known, held_in, kind_in};
+use crate::known::{BodyFact, Known, Way, held_in, kind_in};
 use crate::operators::{BinaryOp, UnaryOp};
 use crate::resolved::{Quantified, Resolved};
 use crate::room::Room;
@@ -47,8 +47,8 @@ pub(crate) struct Gathered {
 /// again.
 const WORTH_TRYING: usize = 8;
 
-/// The number of kinds of members for which what is known of a body is kept.
-const KINDS: usize = 64;
+/// The number of kinds of members for which what is known of a body is kept: others are checked together.
+const KINDS: usize = 8;
 
 /// What is known of a number in the text, if it is one.
 fn number_summary(e: &Resolved) -> Option<Summary>
@@ -114,7 +114,7 @@ impl Unfolding {
             Head::Held(stored) => self.held_leaf(stored),
             Head::Covered(summary) => Some(*summary),
             Head::Leaf(_, e) => number_summary(e),
-            Head::Nothing(..) | Head::Struct(..) | Head::Set(..) => None,
+            Head::Nothing(..) | Head::Struct(..) | Head::Set(..) | Head::Varied(_) => None,
         }
     }
 
@@ -230,7 +230,7 @@ impl Unfolding {
             → IfErr result (λ why. why ≡ Heavy → room < weight v) }
     {
         match head {
-            Head::Nothing(..) => Summary::token(Fact::truth(), room),
+            Head::Nothing(..) | Head::Varied(_) => Summary::token(Fact::truth(), room),
             Head::Held(stored) => {
                 room.less(stored.weight)?;
                 Ok(self.held(stored))
@@ -458,10 +458,8 @@ impl Unfolding {
         if let Some(summary) = self.shared_body(at, bodies, set, i, &head, known, room)? {
             return Ok(summary);
         }
-        if i > 0 {
-            if let Some(summary) = self.kind_body(at, bodies, &head, &mut known.kinds, room)? {
-                return Ok(summary);
-            }
+        if let Some(summary) = self.like_body(at, bodies, set, i, &head, known, room)? {
+            return Ok(summary);
         }
         let last = self.own_body(at, bodies, set, i, room)?;
         let summary = last.summary();
@@ -535,11 +533,39 @@ impl Unfolding {
                 return Ok(Some(summary));
             }
         }
-        if known.alone {
-            return Ok(None);
+        match known.way {
+            Way::Plain => self.body_ahead(at, bodies, set, i, known, room),
+            Way::Nested | Way::Alone => Ok(None),
         }
-        let Some(ahead) = self.bodies_ahead(at, bodies, set, i, room)? else {
-            known.alone = true;
+    }
+
+    /// What is known of the body of a quantifier where its variable is member `i` of its set, by going over several members
+    /// from that one on.
+    fn body_ahead(
+        &self,
+        at: Site<'_>,
+        bodies: Quantified<'_>,
+        set: &Head<'_>,
+        i: usize,
+        known: &mut Known,
+        room: Room,
+    ) -> Result<Option<Summary>, UnfoldFault>
+        requires { AreKnown self.now at.scope.now bodies set.now known.old }
+        ensures light { IfOk result (λ r. IfSome r (λ s. s.weight ≤ room)) }
+        ensures holds { (m : Mode) (base env : Env) (s v : Value)
+            → MeetsBody m self.now base at.entry.scope.now env bodies.entry
+            → Heads m self.now base set.now s → slice_get (members s) i ≡ Some v
+            → IfOk result (λ r. IfSome r (λ k. IsSummary m k (resolved_body bodies.entry env v))) }
+        ensures known { OnOk result
+            (AreKnown self.now at.entry.scope.now bodies.entry set.now known.new) }
+        ensures heavy { (m : Mode) (base env : Env) (s v : Value)
+            → MeetsBody m self.now base at.entry.scope.now env bodies.entry
+            → Heads m self.now base set.now s → slice_get (members s) i ≡ Some v
+            → IfErr result (λ why. why ≡ Heavy → room < weight (resolved_body bodies.entry env v)) }
+    {
+        let nested = known.way.is_nested();
+        let Some(ahead) = self.bodies_ahead(at, bodies, set, i, nested, room)? else {
+            known.way = known.way.further();
             return Ok(None);
         };
         known.ahead = ahead;
@@ -588,6 +614,46 @@ impl Unfolding {
         }))
     }
 
+    /// What is known of the body of a quantifier where its variable is member `i` of its set, by those that are like it: the
+    /// members of its kind if it is a formula without a fault, else the members after it.
+    #[cycle(summing)]
+    fn like_body(
+        &self,
+        at: Site<'_>,
+        bodies: Quantified<'_>,
+        set: &Head<'_>,
+        i: usize,
+        head: &Head<'_>,
+        known: &mut Known,
+        room: Room,
+    ) -> Result<Option<Summary>, UnfoldFault>
+        requires { AreKnown self.now at.scope.now bodies set.now known.old }
+        ensures light { IfOk result (λ r. IfSome r (λ s. s.weight ≤ room)) }
+        ensures holds { (m : Mode) (base env : Env) (s v : Value)
+            → MeetsBody m self.now base at.entry.scope.now env bodies.entry
+            → Heads m self.now base set.now s → slice_get (members s) i ≡ Some v
+            → Heads m self.now base head.now v
+            → IfOk result (λ r. IfSome r (λ k. IsSummary m k (resolved_body bodies.entry env v))) }
+        ensures known { OnOk result
+            (AreKnown self.now at.entry.scope.now bodies.entry set.now known.new) }
+        ensures heavy { (m : Mode) (base env : Env) (s v : Value)
+            → MeetsBody m self.now base at.entry.scope.now env bodies.entry
+            → Heads m self.now base set.now s → slice_get (members s) i ≡ Some v
+            → Heads m self.now base head.now v
+            → IfErr result (λ why. why ≡ Heavy → room < weight (resolved_body bodies.entry env v)) }
+    {
+        if self.kind_of(head).is_some() && known.kinds.len() < KINDS {
+            if i == 0 {
+                return Ok(None);
+            }
+            return self.kind_body(at, bodies, head, &mut known.kinds, room);
+        }
+        match known.way {
+            Way::Nested => self.body_ahead(at, bodies, set, i, known, room),
+            Way::Plain | Way::Alone => Ok(None),
+        }
+    }
+
     /// What is known of the body of a quantifier where its variable is what a member leads to, if that is a formula without
     /// a fault: what was known for its kind, if it was.
     #[cycle(summing)]
@@ -618,9 +684,6 @@ impl Unfolding {
         if let Some(summary) = kind_in(kinds.as_slice(), &kind) {
             room.less(summary.weight)?;
             return Ok(Some(summary));
-        }
-        if kinds.len() >= KINDS {
-            return Ok(None);
         }
         let fact = self.body_of_kind(at, bodies, &kind, room)?;
         let summary = fact.summary();

@@ -2,7 +2,7 @@ use Rattle.std.proofs.Common.{inl, inr, position, ap, sym, subst, refl, ◌∙�
 use Rattle.std.specs.Str.{bytes_eq}
 use Rattle.c2po_unfold.specs.Values.{built, grouped}
 use Rattle.c2po_unfold.specs.Environment.{fields_in}
-use Rattle.c2po_unfold.specs.Heads.{Heads}
+use Rattle.c2po_unfold.specs.Heads.{HeadsIn}
 use Rattle.c2po_unfold.specs.Resolving.{AllResolved, resolved_values}
 use Rattle.c2po_unfold.specs.Scopes.{names_of}
 use Rattle.c2po_unfold.proofs.Columns.{column_bound, column_holds}
@@ -44,24 +44,24 @@ head-returns-in-Group-clause-head t c = λ m base env h. (
 
 pub part-returns-in-Some-get-clause-head : goal.part-returns-in-Some-get-clause-head
 part-returns-in-Some-get-clause-head t c = λ m base env v f p k.
-    let g = subst (λ h. Heads m c.args.self.now base h v) c.in-Struct.is k in
+    let g = subst (λ h. HeadsIn m c.args.self.now base h v) c.in-Struct.is k in
     let at = found_at _ _ _ _ refl c.in-Some-get.ensures.lookup.3.0 c.in-Some-get.ensures.lookup.1 in
     let names = resolved_at c.in-Struct.parts.now c.args.self.now base (names_of c.in-Struct.within.now) c.in-Some.place c.in-Some-get.part.now g.4 at in
-    subst (λ w. IfOk c.head.result (λ h. Heads m c.args.self.now base h w))
+    subst (λ w. IfOk c.head.result (λ h. HeadsIn m c.args.self.now base h w))
     (picked_open c.in-Struct.parts.now g.0 c.in-Struct.name.now c.in-Some.place c.in-Some-get.part.now (λ y. fields_in (env y)) c.args.field.now v g.5
     (sym {b = position (bytes_eq c.args.field.now) (fields_in (env c.in-Struct.name.now))} (c.in-Some.ensures m base env f p)) at)
     (c.head.ensures.head m base g.0 (record { fits = g.1; resolved = names }))
 
 pub part-returns-in-None-clause-head : goal.part-returns-in-None-clause-head
 part-returns-in-None-clause-head t c = λ m base env v f p k.
-    let g = subst (λ h. Heads m c.args.self.now base h v) c.in-Struct.is k in
-    subst (λ w. Heads m c.args.self.now base c.args.whole w)
+    let g = subst (λ h. HeadsIn m c.args.self.now base h v) c.in-Struct.is k in
+    subst (λ w. HeadsIn m c.args.self.now base c.args.whole w)
     (picked_past c.in-Struct.parts.now g.0 c.in-Struct.name.now c.in-Some.place (λ y. fields_in (env y)) c.args.field.now v g.5
     (sym {b = position (bytes_eq c.args.field.now) (fields_in (env c.in-Struct.name.now))} (c.in-Some.ensures m base env f p)) c.in-None.ensures.lookup.3) k
 
 pub part-returns-in-Nothing : goal.part-returns-in-Nothing
 part-returns-in-Nothing t c = record {
-  head = λ m base env v f p k. subst (λ w. Heads m c.args.self.now base c.args.whole w)
+  head = λ m base env v f p k. subst (λ w. HeadsIn m c.args.self.now base c.args.whole w)
       (sym (other_picked m c.args.self.now base c.args.whole v (λ y. fields_in (env y)) c.args.field.now c.in-Nothing.is k)) k;
   memory = tt;
 }

@@ -11,25 +11,35 @@ use Rattle.c2po_unfold.proofs.Quantifying.{bodies_same, resolved_more, values_mo
 use Rattle.c2po_unfold.proofs.Rows.{are_hidden, hidden_values}
 use Rattle.c2po_unfold.proofs.unfolding.Unfolding.+resolving.Goals as goal
 
-pub resolve-returns-in_ok-parts-in-Build-clause-resolved : goal.resolve-returns-in_ok-parts-in-Build-clause-resolved
-resolve-returns-in_ok-parts-in-Build-clause-resolved t c = λ base stands. are_hidden c.args.self.now base (names_around c.args.around.now)
-    c.in_ok-parts-in-Build.parts (c.in_ok-parts-in-Build.ensures.resolved base stands)
+pub resolve_struct-returns-clause-resolved : goal.resolve_struct-returns-clause-resolved
+resolve_struct-returns-clause-resolved t c = λ base stands. are_hidden c.args.self.now base (names_around c.args.around.now)
+    c.in_ok-parts.parts (c.in_ok-parts.ensures.resolved base stands)
 
-pub resolve-returns-in_ok-members-in-Group-clause-resolved : goal.resolve-returns-in_ok-members-in-Group-clause-resolved
-resolve-returns-in_ok-members-in-Group-clause-resolved t c = λ base stands. are_hidden c.args.self.now base (names_around c.args.around.now)
-    c.in_ok-members-in-Group.members (c.in_ok-members-in-Group.ensures.resolved base stands)
+pub resolve_set-returns-clause-resolved : goal.resolve_set-returns-clause-resolved
+resolve_set-returns-clause-resolved t c = λ base stands. are_hidden c.args.self.now base (names_around c.args.around.now)
+    c.in_ok-members.members (c.in_ok-members.ensures.resolved base stands)
 
-pub resolve-returns-in_ok-parts-in-Build-clause-value : goal.resolve-returns-in_ok-parts-in-Build-clause-value
-resolve-returns-in_ok-parts-in-Build-clause-value t c = λ base env stands agree.
-    ap₂ built c.copy.ensures (hidden_values c.in_ok-parts-in-Build.parts env
-    ∙ (c.in_ok-parts-in-Build.ensures.values base env stands agree ∙ ap (λ es. values_of (shapes es) env) c.as_slice.ensures.value))
-    ∙ sym (ap (λ s. value_of s env) (shape_of-Build c.args.e.now c.in-Build.name c.in-Build.parts c.in-Build.is))
+pub resolve_struct-returns-clause-value : goal.resolve_struct-returns-clause-value
+resolve_struct-returns-clause-value t c = λ base env stands agree.
+    ap₂ built c.copy.ensures (hidden_values c.in_ok-parts.parts env ∙ c.in_ok-parts.ensures.values base env stands agree)
 
-pub resolve-returns-in_ok-members-in-Group-clause-value : goal.resolve-returns-in_ok-members-in-Group-clause-value
-resolve-returns-in_ok-members-in-Group-clause-value t c = λ base env stands agree.
-    ap grouped (hidden_values c.in_ok-members-in-Group.members env
-    ∙ (c.in_ok-members-in-Group.ensures.values base env stands agree ∙ ap (λ es. values_of (shapes es) env) c.as_slice-in-Group.ensures.value))
-    ∙ sym (ap (λ s. value_of s env) (shape_of-Group c.args.e.now c.in-Group.members c.in-Group.is))
+pub resolve_set-returns-clause-value : goal.resolve_set-returns-clause-value
+resolve_set-returns-clause-value t c = λ base env stands agree.
+    ap grouped (hidden_values c.in_ok-members.members env ∙ c.in_ok-members.ensures.values base env stands agree)
+
+pub resolve-returns-in-Build-clause-value : goal.resolve-returns-in-Build-clause-value
+resolve-returns-in-Build-clause-value t c = λ base env stands agree.
+    subst (λ w. IfOk c.resolve_struct.result (λ r. resolved_value r env ≡ w))
+    (ap (λ es. built c.in-Build.name (values_of (shapes es) env)) c.as_slice.ensures.value
+    ∙ sym (ap (λ s. value_of s env) (shape_of-Build c.args.e.now c.in-Build.name c.in-Build.parts c.in-Build.is)))
+    (c.resolve_struct.ensures.value base env stands agree)
+
+pub resolve-returns-in-Group-clause-value : goal.resolve-returns-in-Group-clause-value
+resolve-returns-in-Group-clause-value t c = λ base env stands agree.
+    subst (λ w. IfOk c.resolve_set.result (λ r. resolved_value r env ≡ w))
+    (ap (λ es. grouped (values_of (shapes es) env)) c.as_slice-in-Group.ensures.value
+    ∙ sym (ap (λ s. value_of s env) (shape_of-Group c.args.e.now c.in-Group.members c.in-Group.is)))
+    (c.resolve_set.ensures.value base env stands agree)
 
 pub resolve-returns-in-Each-clause-value : goal.resolve-returns-in-Each-clause-value
 resolve-returns-in-Each-clause-value t c = λ base env stands agree.
@@ -54,14 +64,21 @@ join-returns-clause-value t c = λ base env stands agree.
     (c.in_ok-set.ensures.value base env stands agree) c.copy.ensures
     (λ v. c.in_ok-body.ensures.value base env v stands agree))
 
-pub resolve-returns-in_ok-body-in-Count-clause-value : goal.resolve-returns-in_ok-body-in-Count-clause-value
-resolve-returns-in_ok-body-in-Count-clause-value t c = λ base env stands agree.
-    ap (counted c.in-Count.op c.in-Count.number) (bodies_same c.in-Count.name c.copy-in-Count.result (resolved_value c.in_ok-set-in-Count.set.value env)
-    (value_of (shape c.in-Count.set.value) env) (resolved_value c.in_ok-body-in-Count.body.value) (value_of (shape c.in-Count.body.value)) env
-    (c.in_ok-set-in-Count.ensures.value base env stands agree ∙ ap (λ e. value_of (shape e) env) c.deref-in-Count.ensures) c.copy-in-Count.ensures
-    (λ v. c.in_ok-body-in-Count.ensures.value base env v stands agree
-    ∙ ap (λ e. value_of (shape e) (bind c.in-Count.name v env)) c.deref-in-Count-2.ensures))
-    ∙ sym (ap (λ n. value_of (node_shape c.args.e.now.line n) env) c.in-Count.is)
+pub count-returns-clause-value : goal.count-returns-clause-value
+count-returns-clause-value t c = λ base env stands agree.
+    ap (counted c.args.op c.args.number) (bodies_same c.args.name.now c.copy.result (resolved_value c.in_ok-set.set.value env)
+    (value_of (shape c.args.set.now) env) (resolved_value c.in_ok-body.body.value) (value_of (shape c.args.body.now)) env
+    (c.in_ok-set.ensures.value base env stands agree) c.copy.ensures
+    (λ v. c.in_ok-body.ensures.value base env v stands agree))
+
+pub resolve-returns-in-Count-clause-value : goal.resolve-returns-in-Count-clause-value
+resolve-returns-in-Count-clause-value t c = λ base env stands agree.
+    subst (λ w. IfOk c.count.result (λ r. resolved_value r env ≡ w))
+    (ap₂ (λ s b. counted c.in-Count.op c.in-Count.number
+    (map (λ v. value_of (shape b) (bind c.in-Count.name v env)) (members (value_of (shape s) env))))
+    c.deref-in-Count.ensures c.deref-in-Count-2.ensures
+    ∙ sym (ap (λ n. value_of (node_shape c.args.e.now.line n) env) c.in-Count.is))
+    (c.count.ensures.value base env stands agree)
 
 pub resolve_all-loop-e-preserved : goal.resolve_all-loop-e-preserved
 resolve_all-loop-e-preserved t c = record {

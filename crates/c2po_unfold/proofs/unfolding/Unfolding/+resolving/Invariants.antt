@@ -34,3 +34,15 @@ decreases-resolve_body l = 4 * goal.size-resolve_body l + 2
 
 abbrev pub decreases-join : goal.decreases-join
 decreases-join l = 4 * max (the_size l.set.now) (the_size l.body.now) + 3
+
+abbrev pub decreases-count : goal.decreases-count
+decreases-count l = 4 * max (the_size l.set.now) (the_size l.body.now) + 3
+
+abbrev pub decreases-resolve_struct : goal.decreases-resolve_struct
+decreases-resolve_struct l = 4 * goal.size-resolve_struct l + 3
+
+abbrev pub decreases-resolve_set : goal.decreases-resolve_set
+decreases-resolve_set l = 4 * goal.size-resolve_set l + 3
+
+abbrev pub decreases-resolve_field : goal.decreases-resolve_field
+decreases-resolve_field l = 4 * goal.size-resolve_field l + 1

@@ -2,10 +2,10 @@ use Rattle.std.proofs.Common.{◌≡◌, ◌+◌, ◌-◌, ◌<◌, true, false,
 use Rattle.std.proofs.lemmas.List.{take_all, length-map}
 use Rattle.std.proofs.lemmas.Result.{err_from_is_err_and}
 use Rattle.std.proofs.lemmas.Option.{same_Some}
+use Rattle.c2po_unfold.specs.Cases.{only}
 use Rattle.c2po_unfold.specs.Covering.{covering, Says}
 use Rattle.c2po_unfold.specs.declared.known.BodyFact.{BodyFact}
 use Rattle.c2po_unfold.specs.declared.summary.Summary.{Summary}
-use Rattle.c2po_unfold.specs.Ahead.{AreKnown, IsAhead}
 use Rattle.c2po_unfold.specs.Bodies.{AreOfBody}
 use Rattle.c2po_unfold.proofs.Later.{fits_covering, later_same}
 use Rattle.c2po_nodes.specs.Nodes.{formula, constant_formula}
@@ -22,19 +22,6 @@ use Rattle.c2po_unfold.specs.Summaries.{IsOfLeaf, IsSummary, gathered}
 use Rattle.c2po_unfold.proofs.Members.{found_at, holds_weight}
 use Rattle.c2po_unfold.proofs.Loops.{WeighedSoFar, GatheredSoFar, bodies_by, meets_all, meets_at, weighed_more, weight_within, bodies_count, body_at, member_at, none_left, weights_back, joined_first, joined_one, joined_known, joined_within, ahead_known, nothing_known, one_more_kind, sum_within, meets_within, gathered_more, counted_tells, counted_weight}
 use Rattle.c2po_unfold.proofs.unfolding.Unfolding.+summing.Goals as goal
-use Rattle.std.proofs.Common.{rules, FitsSigned, w64, inl, inr, List, Bor}
-use Rattle.std.proofs.lemmas.Option.{slice_get_within, slice_get-get_or}
-use Rattle.c2po_nodes.specs.Nodes.{number}
-use Rattle.c2po_unfold.specs.Values.{integer}
-use Rattle.std.proofs.lemmas.Int.{to_z-of_z}
-use Rattle.mltl_base.specs.Atoms.{constant}
-use Rattle.c2po_unfold.specs.Facts.{Tells}
-use Rattle.c2po_unfold.proofs.Leading.{found_holds, known_holds}
-use Rattle.c2po_unfold.specs.Ahead.{KnownFor}
-use Rattle.c2po_unfold.proofs.Several.{here_value, outer_bound, outer_column, outer_meets, outer_value, row_holds, binary_meets, binary_same, meets_member, member_scope, unary_meets, unary_same, first_at, known_here, no_stored, rest_at}
-use Rattle.c2po_unfold.specs.declared.values.Stored.{Stored}
-use Rattle.c2po_unfold.proofs.Parts.{member_held}
-use Rattle.c2po_unfold.proofs.unfolding.Unfolding.+summing.Goals.{bodies_ahead-in-Some-get, bodies_ahead-in-None, next_body-then-i-gt0+in_ok-summary-2+in_default-2, next_body-else-i-gt0}
 
 pub binary-returns-in_err-b-clause-heavy : goal.binary-returns-in_err-b-clause-heavy
 binary-returns-in_err-b-clause-heavy t c = λ m base env h k.
@@ -74,7 +61,7 @@ pub joined_bodies-returns-in_err-first-clause-heavy : goal.joined_bodies-returns
 joined_bodies-returns-in_err-first-clause-heavy t c = λ m base env h.
     let p = err_from_is_err_and c.from_residual-in_err-first.result c.from_residual-in_err-first.ensures.1 in
     let s = resolved_value c.args.bodies.set.now env in
-    let heads = c.in_ok-set.ensures.head m base env h.set in
+    let heads = c.in_ok-set.ensures.head (only m) base env h.set in
     let v = get_or (members s) 0 (truth_value false) in
     let at : slice_get (members s) 0 ≡ Some v = member_at (members s) 0 c.member_count-count.result (c.member_count-count.ensures m base s heads) (omega arith) in
     rw (p.1, p.2)
@@ -103,7 +90,7 @@ joined_bodies-returns-in_err-left-clause-heavy t c = λ m base env h.
     let p = err_from_is_err_and c.from_residual-in_err-left.result c.from_residual-in_err-left.ensures.1 in
     let i = c.loop-i.i in
     let s = resolved_value c.args.bodies.set.now env in
-    let heads = c.in_ok-set.ensures.head m base env h.set in
+    let heads = c.in_ok-set.ensures.head (only m) base env h.set in
     let v = get_or (members s) i (truth_value false) in
     let at : slice_get (members s) i ≡ Some v = member_at (members s) i c.member_count-count.result (c.member_count-count.ensures m base s heads) c.loop-i-test.true in
     let bodies = resolved_bodies c.args.bodies env s in
@@ -122,7 +109,7 @@ joined_bodies-returns-in_err-next-clause-heavy t c = λ m base env h.
     let p = err_from_is_err_and c.from_residual-in_err-next.result c.from_residual-in_err-next.ensures.1 in
     let i = c.loop-i.i in
     let s = resolved_value c.args.bodies.set.now env in
-    let heads = c.in_ok-set.ensures.head m base env h.set in
+    let heads = c.in_ok-set.ensures.head (only m) base env h.set in
     let v = get_or (members s) i (truth_value false) in
     let at : slice_get (members s) i ≡ Some v = member_at (members s) i c.member_count-count.result (c.member_count-count.ensures m base s heads) c.loop-i-test.true in
     let bodies = resolved_bodies c.args.bodies env s in
@@ -157,7 +144,7 @@ joined_bodies-loop-i-preserved t c =
 pub joined_bodies-returns-clause-holds : goal.joined_bodies-returns-clause-holds
 joined_bodies-returns-clause-holds t c = λ m base env h.
     let s = resolved_value c.args.bodies.set.now env in
-    let heads = c.in_ok-set.ensures.head m base env h.set in
+    let heads = c.in_ok-set.ensures.head (only m) base env h.set in
     let bodies = resolved_bodies c.args.bodies env s in
     let whole : take c.loop-i.i bodies ≡ bodies =
     take_all c.loop-i.i bodies (omega (arith, bodies_count c.args.bodies env s, c.member_count-count.ensures m base s heads)) in
@@ -168,7 +155,7 @@ gather-returns-in_err-next-clause-heavy t c = λ m base env h.
     let p = err_from_is_err_and c.from_residual-in_err-next.result c.from_residual-in_err-next.ensures.1 in
     let i = c.loop-i.i in
     let s = resolved_value c.args.bodies.set.now env in
-    let heads = c.in_ok-set.ensures.head m base env h.set in
+    let heads = c.in_ok-set.ensures.head (only m) base env h.set in
     let v = get_or (members s) i (truth_value false) in
     let at : slice_get (members s) i ≡ Some v = member_at (members s) i c.member_count-count.result (c.member_count-count.ensures m base s heads) c.loop-i-test.true in
     let bodies = resolved_bodies c.args.bodies env s in
@@ -193,7 +180,7 @@ gather-loop-i-preserved t c =
 pub gather-returns-clause-fact : goal.gather-returns-clause-fact
 gather-returns-clause-fact t c = λ m base env h.
     let s = resolved_value c.args.bodies.set.now env in
-    let heads = c.in_ok-set.ensures.head m base env h.set in
+    let heads = c.in_ok-set.ensures.head (only m) base env h.set in
     let whole : take c.loop-i.i (resolved_bodies c.args.bodies env s) ≡ resolved_bodies c.args.bodies env s =
     take_all c.loop-i.i (resolved_bodies c.args.bodies env s) (omega (arith, bodies_count c.args.bodies env s, c.member_count-count.ensures m base s heads)) in
     subst (λ vs. Says m c.loop-i.fact (Some (formula (gathered (map formula_of vs))))) whole (c.loop-i.invariant.tells m base env s h.body heads)
@@ -201,7 +188,7 @@ gather-returns-clause-fact t c = λ m base env h.
 pub gather-returns-clause-weight : goal.gather-returns-clause-weight
 gather-returns-clause-weight t c = λ m base env h.
     let s = resolved_value c.args.bodies.set.now env in
-    let heads = c.in_ok-set.ensures.head m base env h.set in
+    let heads = c.in_ok-set.ensures.head (only m) base env h.set in
     let whole : take c.loop-i.i (resolved_bodies c.args.bodies env s) ≡ resolved_bodies c.args.bodies env s =
     take_all c.loop-i.i (resolved_bodies c.args.bodies env s) (omega (arith, bodies_count c.args.bodies env s, c.member_count-count.ensures m base s heads)) in
     subst (λ vs. c.args.room ≡ c.loop-i.left + sum_by weight vs) whole (c.loop-i.invariant.weight m base env s h.body heads)
@@ -209,7 +196,7 @@ gather-returns-clause-weight t c = λ m base env h.
 pub gather-returns-clause-count : goal.gather-returns-clause-count
 gather-returns-clause-count t c = λ m base env h.
     let s = resolved_value c.args.bodies.set.now env in
-    c.member_count-count.ensures m base s (c.in_ok-set.ensures.head m base env h.set) ∙ sym (bodies_count c.args.bodies env s)
+    c.member_count-count.ensures m base s (c.in_ok-set.ensures.head (only m) base env h.set) ∙ sym (bodies_count c.args.bodies env s)
 
 pub counted_bodies-returns-clause-holds : goal.counted_bodies-returns-clause-holds
 counted_bodies-returns-clause-holds t c = λ m base env h.
@@ -237,7 +224,7 @@ joined_bodies-returns-then-count-eq0-clause-holds t c = λ m base env h.
     let s = resolved_value c.args.bodies.set.now env in
     let bodies = bodies_of c.args.bodies env in
     let none : bodies ≡ [] =
-    none_left bodies c.member_count-count.result (c.member_count-count.ensures m base s (c.in_ok-set.ensures.head m base env h.set) ∙ sym (bodies_count c.args.bodies env s)) (omega arith) in
+    none_left bodies c.member_count-count.result (c.member_count-count.ensures m base s (c.in_ok-set.ensures.head (only m) base env h.set) ∙ sym (bodies_count c.args.bodies env s)) (omega arith) in
     subst (λ vs. IsSummary m c.none.result (connected_all c.args.op vs)) (sym none) (c.none.ensures.joined m c.args.op)
 
 pub counted_bodies-returns-then-all-eq0-clause-holds : goal.counted_bodies-returns-then-all-eq0-clause-holds
@@ -267,23 +254,23 @@ counted_bodies-returns-in_err-gates-clause-heavy t c = λ m base env h.
 pub own_body-returns-in_err-summary-clause-heavy : goal.own_body-returns-in_err-summary-clause-heavy
 own_body-returns-in_err-summary-clause-heavy t c = λ m base env s v h heads at.
     let p = err_from_is_err_and c.from_residual-in_err-summary.result c.from_residual-in_err-summary.ensures.1 in
-    let fits = c.bound.ensures.fits m c.args.self.now base env v h.fits (c.in_ok-head.ensures.head m base s v heads at) in
-    let inside = meets_within m c.args.self.now base c.args.at.scope.now c.bound.result env c.args.bodies v c.bound.ensures.names fits h.resolved in
+    let fits = c.bound.ensures.fits (only m) c.args.self.now base env v h.fits (c.in_ok-head.ensures.head (only m) base s v heads at) in
+    let inside = meets_within (only m) c.args.self.now base c.args.at.scope.now c.bound.result env c.args.bodies v c.bound.ensures.names fits h.resolved in
     rw (p.1, p.2) (λ e. c.in_err-summary.ensures.heavy m base (bind c.args.bodies.name.now v env) inside e)
 
 pub own_body-returns-clause-holds : goal.own_body-returns-clause-holds
 own_body-returns-clause-holds t c = λ m base env s v h heads at.
-    let fits = c.bound.ensures.fits m c.args.self.now base env v h.fits (c.in_ok-head.ensures.head m base s v heads at) in
+    let fits = c.bound.ensures.fits (only m) c.args.self.now base env v h.fits (c.in_ok-head.ensures.head (only m) base s v heads at) in
     c.in_ok-summary.ensures.holds m base (bind c.args.bodies.name.now v env)
-    (meets_within m c.args.self.now base c.args.at.scope.now c.bound.result env c.args.bodies v c.bound.ensures.names fits h.resolved)
+    (meets_within (only m) c.args.self.now base c.args.at.scope.now c.bound.result env c.args.bodies v c.bound.ensures.names fits h.resolved)
 
 pub own_body-returns-clause-known : goal.own_body-returns-clause-known
 own_body-returns-clause-known t c = record {
   holds = λ m base env s v some h held.
       let same = c.held_in.ensures s some in
-      let fits = c.bound.ensures.fits m c.args.self.now base env v h.fits (subst (λ head. Heads m c.args.self.now base head v) (sym same) held) in
+      let fits = c.bound.ensures.fits (only m) c.args.self.now base env v h.fits (subst (λ head. Heads m c.args.self.now base head v) (sym same) held) in
       c.in_ok-summary.ensures.holds m base (bind c.args.bodies.name.now v env)
-      (meets_within m c.args.self.now base c.args.at.scope.now c.bound.result env c.args.bodies v c.bound.ensures.names fits h.resolved);
+      (meets_within (only m) c.args.self.now base c.args.at.scope.now c.bound.result env c.args.bodies v c.bound.ensures.names fits h.resolved);
   covers = λ m base env s v some. cc;
 }
 
@@ -291,9 +278,9 @@ own_body-returns-clause-known t c = record {
 pub covered_body-returns-in_err-summary-clause-heavy : goal.covered_body-returns-in_err-summary-clause-heavy
 covered_body-returns-in_err-summary-clause-heavy t c = λ m base env v h heads.
     let p = err_from_is_err_and c.from_residual.result c.from_residual.ensures.1 in
-    let fits = c.bound.ensures.fits covering c.args.self.now base env v (fits_covering m base c.args.at.scope.now c.args.self.now env h.fits)
+    let fits = c.bound.ensures.fits (only covering) c.args.self.now base env v (fits_covering m base c.args.at.scope.now c.args.self.now env h.fits)
     (c.in-Some.ensures m base v heads) in
-    let inside = meets_within covering c.args.self.now base c.args.at.scope.now c.bound.result env c.args.bodies v c.bound.ensures.names fits h.resolved in
+    let inside = meets_within (only covering) c.args.self.now base c.args.at.scope.now c.bound.result env c.args.bodies v c.bound.ensures.names fits h.resolved in
     rw (p.1, p.2) (λ e. c.in_err-summary.ensures.heavy covering base (bind c.args.bodies.name.now v env) inside e)
 
 pub covered_body-returns-clause-known : goal.covered_body-returns-clause-known
@@ -302,20 +289,20 @@ covered_body-returns-clause-known t c = record {
   covers = λ m base env s v some h leaf.
       let sure : c.is_certain.result ≡ true = c.if-not-is_certain.false in
       let own = subst (λ x. IsOfLeaf covering x v) (sym (same_Some c.in-Some.cover s some)) leaf in
-      let fits = c.bound.ensures.fits covering c.args.self.now base env v (fits_covering m base c.args.at.scope.now c.args.self.now env h.fits) own in
+      let fits = c.bound.ensures.fits (only covering) c.args.self.now base env v (fits_covering m base c.args.at.scope.now c.args.self.now env h.fits) own in
       c.is_certain.ensures m (resolved_body c.args.bodies env v) sure
       (c.in_ok-summary.ensures.holds covering base (bind c.args.bodies.name.now v env)
-      (meets_within covering c.args.self.now base c.args.at.scope.now c.bound.result env c.args.bodies v c.bound.ensures.names fits h.resolved));
+      (meets_within (only covering) c.args.self.now base c.args.at.scope.now c.bound.result env c.args.bodies v c.bound.ensures.names fits h.resolved));
 }
 
 pub covered_body-returns-clause-holds : goal.covered_body-returns-clause-holds
 covered_body-returns-clause-holds t c = λ m base env v h heads.
     let sure : c.is_certain.result ≡ true = c.if-not-is_certain.false in
-    let fits = c.bound.ensures.fits covering c.args.self.now base env v (fits_covering m base c.args.at.scope.now c.args.self.now env h.fits)
+    let fits = c.bound.ensures.fits (only covering) c.args.self.now base env v (fits_covering m base c.args.at.scope.now c.args.self.now env h.fits)
     (c.in-Some.ensures m base v heads) in
     c.is_certain.ensures m (resolved_body c.args.bodies env v) sure
     (c.in_ok-summary.ensures.holds covering base (bind c.args.bodies.name.now v env)
-    (meets_within covering c.args.self.now base c.args.at.scope.now c.bound.result env c.args.bodies v c.bound.ensures.names fits h.resolved))
+    (meets_within (only covering) c.args.self.now base c.args.at.scope.now c.bound.result env c.args.bodies v c.bound.ensures.names fits h.resolved))
 
 -- stored values
 pub head_summary-returns-in_err-less-in-Held-clause-heavy : goal.head_summary-returns-in_err-less-in-Held-clause-heavy
@@ -386,12 +373,12 @@ body-returns-in-Some-clause-holds t c = λ m base env s v h heads at.
 pub next_body-returns-then-is_known-clause-holds : goal.next_body-returns-then-is_known-clause-holds
 next_body-returns-then-is_known-clause-holds t c = λ m base env s v h heads at.
     subst (λ k. IsSummary m k (resolved_body c.args.bodies env v)) (sym c.summary-summary.ensures)
-    (c.is_known.ensures m c.args.at.scope.now c.args.bodies base env v c.if-is_known.true c.requires.last h (c.in_ok-head.ensures.head m base s v heads at))
+    (c.is_known.ensures m c.args.at.scope.now c.args.bodies base env v c.if-is_known.true c.requires.last h (c.in_ok-head.ensures.head (only m) base s v heads at))
 
 pub next_body-returns-in-Some-clause-holds : goal.next_body-returns-in-Some-clause-holds
 next_body-returns-in-Some-clause-holds t c = λ m base env s v h heads at.
     subst (λ o. IfSome o (λ (k : Summary). IsSummary m k (resolved_body c.args.bodies env v))) c.in-Some.is
-    (c.in_ok-summary.ensures.holds m base env s v h heads at (c.in_ok-head.ensures.head m base s v heads at))
+    (c.in_ok-summary.ensures.holds m base env s v h heads at (c.in_ok-head.ensures.head (only m) base s v heads at))
 
 pub next_body-returns-clause-holds : goal.next_body-returns-clause-holds
 next_body-returns-clause-holds t c = λ m base env s v h heads at.
@@ -405,155 +392,28 @@ shared_body-returns-in-Some-clause-holds t c = λ m base env s v h heads at own.
     (subst (λ o. IfSome o (λ (known : BodyFact). IsSummary m known.summary (resolved_body c.args.bodies env v))) c.in-Some.is
     (c.in_ok-last.ensures.holds m base env v h own))
 
-pub shared_body-returns-in_err-less-clause-heavy : goal.shared_body-returns-in_err-less-clause-heavy
-shared_body-returns-in_err-less-clause-heavy t c = λ m base env s v h heads at own.
-    let p = err_from_is_err_and c.from_residual-in_err-less.result c.from_residual-in_err-less.ensures.1 in
-    let ahead = subst (λ o. IfSome o (IsAhead c.args.self.now c.args.at.scope.now c.args.bodies c.args.set.now)) c.in-Some-2.is c.in_ok-ahead.ensures.ahead in
-    let known = ahead_known m c.args.self.now base c.args.at.scope.now env c.args.bodies c.args.set.now c.in-Some-2.ahead s v c.args.i c.in-Some-at.summary
-    ahead c.in-Some-at.ensures h heads at in
-    rw (p.1, p.2) (λ e. omega (arith, c.in_err-less.ensures.heavy, known.weight))
-
-pub shared_body-returns-clause-holds : goal.shared_body-returns-clause-holds
-shared_body-returns-clause-holds t c = λ m base env s v h heads at own.
-    let ahead = subst (λ o. IfSome o (IsAhead c.args.self.now c.args.at.scope.now c.args.bodies c.args.set.now)) c.in-Some-2.is c.in_ok-ahead.ensures.ahead in
-    ahead_known m c.args.self.now base c.args.at.scope.now env c.args.bodies c.args.set.now c.in-Some-2.ahead s v c.args.i c.in-Some-at.summary
-    ahead c.in-Some-at.ensures h heads at
-
--- several values of a variable at once
-pub each-returns-in-Variable : goal.each-returns-in-Variable
-each-returns-in-Variable t c = λ m base env i v h.
-    subst (λ w. IfOk c.each_member.result (λ r. KnownFor m r i w))
-    (sym (here_value c.args.of env c.args.e.now v c.in-Variable.name c.in-Variable.is (cc)))
-    (c.each_member.ensures m i h.stored v h.at h.holds)
-
-pub each-returns-in_ok-summary-in-Variable-2 : goal.each-returns-in_ok-summary-in-Variable-2
-each-returns-in_ok-summary-in-Variable-2 t c = λ m base env i v h. (
-  c.in_ok-summary-in-Variable-2.field-0,
-  refl,
-  subst (IsSummary m c.in_ok-summary-in-Variable-2.field-0)
-      (outer_value c.args.of env c.args.e.now v c.in-Variable.name c.in-Variable.is (cc))
-      (c.in_ok-summary-in-Variable-2.ensures.holds m base env
-      (outer_meets m c.args.self.now base c.args.at.scope.now env c.args.of c.args.e.now i v c.in-Variable.name h c.in-Variable.is (cc))),
-)
-
-pub each-returns-in-Column : goal.each-returns-in-Column
-each-returns-in-Column t c = λ m base env i v h.
-    c.each_row.ensures m i h.stored (resolved_value c.args.e.now (bind c.args.of.name.now v env)) h.at
-    (row_holds m c.args.self.now base c.args.at.scope.now env c.args.of c.args.e.now _ i v _ c.in-Column.name c.in-Column.rows
-    c.as_slice.result.now h c.in-Column.is c.as_slice.ensures.value (cc))
-
-pub each-returns-in_ok-found-in-Column-2 : goal.each-returns-in_ok-found-in-Column-2
-each-returns-in_ok-found-in-Column-2 t c = λ m base env i v h.
-    let u = c.args.self.now in
-    let scope = c.args.at.scope.now in
-    let bound = outer_bound m u base scope env c.args.of c.args.e.now _ i v _ c.in-Column-2.name c.in-Column-2.rows h c.in-Column-2.is (cc) in (
-      c.held.result,
-      refl,
-      c.held.ensures.holds m (resolved_value c.args.e.now (bind c.args.of.name.now v env))
-          (outer_column m u base scope env c.args.of c.args.e.now _ i v _ c.in-Column-2.name c.in-Column-2.rows
-          c.as_slice-in-Column-2.result.now c.in_ok-found-in-Column-2.found h c.in-Column-2.is c.as_slice-in-Column-2.ensures.value (cc)
-          c.found.result c.in_ok-found-in-Column-2.ensures.ok_part (c.found.ensures m u base env h.fits bound)),
-    )
-
-pub each-returns-in_ok-token-in-Number : goal.each-returns-in_ok-token-in-Number
-each-returns-in_ok-token-in-Number t c = λ m base env i v h.
-    let n = c.in-Number.n in
-    let fits : FitsSigned w64 n = search rules in
-    let told : Tells c.constant.result (Some (number (constant n))) =
-    subst (λ z. Tells c.constant.result (Some (number (constant z)))) (to_z-of_z w64 n fits) c.constant.ensures in (
-      c.in_ok-token-in-Number.field-0,
-      refl,
-      subst (λ d. IsSummary m c.in_ok-token-in-Number.field-0 (resolved_value d (bind c.args.of.name.now v env))) (sym c.in-Number.is)
-          (c.in_ok-token-in-Number.ensures.holds m (integer n) refl told),
-    )
-
-pub each-returns-in_ok-token-in-Truth : goal.each-returns-in_ok-token-in-Truth
-each-returns-in_ok-token-in-Truth t c = λ m base env i v h. (
-  c.in_ok-token-in-Truth.field-0,
-  refl,
-  subst (λ d. IsSummary m c.in_ok-token-in-Truth.field-0 (resolved_value d (bind c.args.of.name.now v env))) (sym c.in-Truth.is)
-      (c.in_ok-token-in-Truth.ensures.holds m _ refl (c.truth.ensures.truth c.in-Truth.field-0)),
-)
-
-pub each-returns-in_ok-a-in-Unary : goal.each-returns-in_ok-a-in-Unary
-each-returns-in_ok-a-in-Unary t c = λ m base env i v h.
-    let inner = bind c.args.of.name.now v env in
-    let d = c.deref.result.now in
-    subst (λ w. IfOk c.over_one.result (λ r. KnownFor m r i w))
-    (unary_same inner c.args.e.now _ d c.in-Unary.op _ c.in-Unary.is c.deref.ensures)
-    (c.over_one.ensures m i (resolved_value d inner) (slice_get_within c.args.of.members.now i h.stored h.at)
-    (c.in_ok-a-in-Unary.ensures m base env i v
-    (unary_meets m c.args.self.now base c.args.at.scope.now env c.args.of c.args.e.now _ d i v c.in-Unary.op _ h c.in-Unary.is c.deref.ensures)))
-
-pub each-returns-in_ok-b-in-Binary : goal.each-returns-in_ok-b-in-Binary
-each-returns-in_ok-b-in-Binary t c = λ m base env i v h.
-    let inner = bind c.args.of.name.now v env in
-    let d = c.deref-in-Binary.result.now in
-    let f = c.deref-in-Binary-2.result.now in
-    let both = binary_meets m c.args.self.now base c.args.at.scope.now env c.args.of c.args.e.now _ _ d f i v c.in-Binary.op _ _ h c.in-Binary.is
-    c.deref-in-Binary.ensures c.deref-in-Binary-2.ensures in
-    subst (λ w. IfOk c.over_two.result (λ r. KnownFor m r i w))
-    (binary_same inner c.args.e.now _ _ d f c.in-Binary.op _ _ c.in-Binary.is c.deref-in-Binary.ensures c.deref-in-Binary-2.ensures)
-    (c.over_two.ensures m i (resolved_value d inner) (resolved_value f inner) (slice_get_within c.args.of.members.now i h.stored h.at)
-    (c.in_ok-a-in-Binary.ensures m base env i v both.0)
-    (c.in_ok-b-in-Binary.ensures m base env i v both.1))
-
-pub each-returns-in-Known : goal.each-returns-in-Known
-each-returns-in-Known t c = λ m base env i v h.
-    let u = c.args.self.now in
-    let inner = bind c.args.of.name.now v env in
-    let scope = member_scope c.args.of h.stored c.args.at.scope.now in
-    let meets = meets_member m u base c.args.at.scope.now env c.args.of c.args.e.now i v h in (
-      c.held-in-Known.result,
-      refl,
-      c.held-in-Known.ensures.holds m (resolved_value c.args.e.now inner) (elim c.in-Known.is [
-        | inl x ↦ known_holds m u base scope inner c.args.e.now x.0 c.in-Known.stored meets x.1
-        | inr d ↦ found_holds m u base scope inner c.args.e.now _ _ c.in-Known.stored meets d.1
-      ]),
-    )
-
--- bodies over several members
-pub bodies_ahead-returns-in-Ok-clause-ahead : goal.bodies_ahead-returns-in-Ok-clause-ahead
-bodies_ahead-returns-in-Ok-clause-ahead t c = record {
-  holds = λ m base env s v j k h heads inside known at.
-      let u = c.args.self.now in
-      let ms = c.match-get-2.members.now in
-      let all = c.held_members.result.now in
-      let stored = get_or ms j no_stored in
-      let here : slice_get ms j ≡ Some stored = slice_get-get_or ms j no_stored inside in
-      let within : slice_get c.in-Some.rest.now j ≡ Some stored = elim c.match-get-2.branch [
-        | bodies_ahead-in-Some-get w ↦ first_at c.in-Some.rest.now 64 j c.get-2.result c.match-get-2.members stored c.get-2.ensures.lookup (w.in-Some-get.is ∙ ap Some (sym w.members-is)) here
-        | bodies_ahead-in-None w ↦ subst (λ (x : Bor (List Stored)). slice_get x.now j ≡ Some stored) w.members-is here
-      ] in
-      let place : slice_get all (c.args.i + j) ≡ Some stored = rest_at all c.args.i j c.get.result c.in-Some.rest stored c.get.ensures.lookup c.in-Some.is within in
-      let holds = member_held s u all (c.args.i + j) stored v
-      (c.held_members.ensures s (subst (λ r. Heads m u base r s) c.in-Held.is heads)) place at in
-      known_here m c.in-Ok.each j (resolved_body c.args.bodies env v) k
-      (c.in-Ok.ensures m base env j v (record { fits = h.fits; resolved = h.resolved; stored = stored; at = here; holds = holds })) known;
-}
-
 -- bodies for kinds of members
 pub body_of_kind-returns-in_err-summary-clause-heavy : goal.body_of_kind-returns-in_err-summary-clause-heavy
 body_of_kind-returns-in_err-summary-clause-heavy t c = λ m base env v h own.
     let p = err_from_is_err_and c.from_residual.result c.from_residual.ensures.1 in
-    let fits = c.bound.ensures.fits m c.args.self.now base env v h.fits own in
-    let inside = meets_within m c.args.self.now base c.args.at.scope.now c.bound.result env c.args.bodies v c.bound.ensures.names fits h.resolved in
+    let fits = c.bound.ensures.fits (only m) c.args.self.now base env v h.fits own in
+    let inside = meets_within (only m) c.args.self.now base c.args.at.scope.now c.bound.result env c.args.bodies v c.bound.ensures.names fits h.resolved in
     rw (p.1, p.2) (λ e. c.in_err-summary.ensures.heavy m base (bind c.args.bodies.name.now v env) inside e)
 
 pub body_of_kind-returns-clause-holds : goal.body_of_kind-returns-clause-holds
 body_of_kind-returns-clause-holds t c = λ m base env v h own.
-    let fits = c.bound.ensures.fits m c.args.self.now base env v h.fits own in
+    let fits = c.bound.ensures.fits (only m) c.args.self.now base env v h.fits own in
     c.in_ok-summary.ensures.holds m base (bind c.args.bodies.name.now v env)
-    (meets_within m c.args.self.now base c.args.at.scope.now c.bound.result env c.args.bodies v c.bound.ensures.names fits h.resolved)
+    (meets_within (only m) c.args.self.now base c.args.at.scope.now c.bound.result env c.args.bodies v c.bound.ensures.names fits h.resolved)
 
 pub body_of_kind-returns-clause-known : goal.body_of_kind-returns-clause-known
 body_of_kind-returns-clause-known t c = record {
   holds = λ m base env s v some. cc;
   covers = λ m base env s v some h leaf.
       let own = c.requires m v (subst (λ x. IsOfLeaf covering x v) (sym (same_Some c.args.kind.now s some)) leaf) in
-      let fits = c.bound.ensures.fits m c.args.self.now base env v h.fits own in
+      let fits = c.bound.ensures.fits (only m) c.args.self.now base env v h.fits own in
       c.in_ok-summary.ensures.holds m base (bind c.args.bodies.name.now v env)
-      (meets_within m c.args.self.now base c.args.at.scope.now c.bound.result env c.args.bodies v c.bound.ensures.names fits h.resolved);
+      (meets_within (only m) c.args.self.now base c.args.at.scope.now c.bound.result env c.args.bodies v c.bound.ensures.names fits h.resolved);
 }
 
 pub kind_body-returns-in-Some-kind_in-clause-holds : goal.kind_body-returns-in-Some-kind_in-clause-holds
@@ -575,15 +435,23 @@ kind_body-returns-clause-known t c =
 pub next_body-returns-in-Some-2-clause-holds : goal.next_body-returns-in-Some-2-clause-holds
 next_body-returns-in-Some-2-clause-holds t c = λ m base env s v h heads at.
     subst (λ o. IfSome o (λ (k : Summary). IsSummary m k (resolved_body c.args.bodies env v))) c.in-Some-2.is
-    (c.in_ok-summary-2.ensures.holds m base env v h (c.in_ok-head.ensures.head m base s v heads at))
+    (c.in_ok-summary-2.ensures.holds m base env s v h heads at (c.in_ok-head.ensures.head (only m) base s v heads at))
 
-pub next_body-returns-clause-known : goal.next_body-returns-clause-known
-next_body-returns-clause-known t c =
-    let Are = AreKnown c.args.self.now c.args.at.scope.now c.args.bodies c.args.set.now in
-    let shared : Are c.shared_body.new.known = c.in_ok-summary.ensures.known in
-    let then : Are c.if-i-gt0.known = elim c.if-i-gt0.branch [
-      | next_body-then-i-gt0+in_ok-summary-2+in_default-2 w ↦ subst Are (sym w.known-is)
-          (record { last = shared.last; ahead = shared.ahead; kinds = w.in_ok-summary-2.ensures.known })
-      | next_body-else-i-gt0 w ↦ subst Are (sym w.known-is) shared
-    ] in
-    record { last = c.in_ok-last.ensures.known; ahead = then.ahead; kinds = then.kinds }
+-- bodies by those that are like them
+pub like_body-returns-in-Nested-clause-holds : goal.like_body-returns-in-Nested-clause-holds
+like_body-returns-in-Nested-clause-holds t c = λ m base env s v h heads at own. c.body_ahead.ensures.holds m base env s v h heads at
+
+pub like_body-returns-in-Nested-clause-heavy : goal.like_body-returns-in-Nested-clause-heavy
+like_body-returns-in-Nested-clause-heavy t c = λ m base env s v h heads at own. c.body_ahead.ensures.heavy m base env s v h heads at
+
+pub like_body-returns-then-len-lt-KINDS-clause-holds : goal.like_body-returns-then-len-lt-KINDS-clause-holds
+like_body-returns-then-len-lt-KINDS-clause-holds t c = λ m base env s v h heads at own. c.kind_body.ensures.holds m base env v h own
+
+pub like_body-returns-then-len-lt-KINDS-clause-heavy : goal.like_body-returns-then-len-lt-KINDS-clause-heavy
+like_body-returns-then-len-lt-KINDS-clause-heavy t c = λ m base env s v h heads at own. c.kind_body.ensures.heavy m base env v h own
+
+pub shared_body-returns-in-Plain-clause-holds : goal.shared_body-returns-in-Plain-clause-holds
+shared_body-returns-in-Plain-clause-holds t c = λ m base env s v h heads at own. c.body_ahead.ensures.holds m base env s v h heads at
+
+pub shared_body-returns-in-Plain-clause-heavy : goal.shared_body-returns-in-Plain-clause-heavy
+shared_body-returns-in-Plain-clause-heavy t c = λ m base env s v h heads at own. c.body_ahead.ensures.heavy m base env s v h heads at

@@ -53,14 +53,11 @@ invariant-joined_bodies-loop-i l = JoinedSoFar l.self l.at.scope.now l.set l.bod
 abbrev pub invariant-gather-loop-i : goal.invariant-gather-loop-i
 invariant-gather-loop-i l = GatheredSoFar l.self l.at.scope.now l.set l.bodies l.fn.room l.i l.fact l.left l.known
 
-abbrev pub decreases-bodies_ahead : goal.decreases-bodies_ahead
-decreases-bodies_ahead l = 10 * l.at.depth + 2
-
-abbrev pub decreases-each : goal.decreases-each
-decreases-each l = 10 * l.at.depth + 1
-
 abbrev pub decreases-kind_body : goal.decreases-kind_body
-decreases-kind_body l = 10 * l.at.depth + 3
+decreases-kind_body l = 10 * l.at.depth + 2
 
 abbrev pub decreases-body_of_kind : goal.decreases-body_of_kind
-decreases-body_of_kind l = 10 * l.at.depth + 2
+decreases-body_of_kind l = 10 * l.at.depth + 1
+
+abbrev pub decreases-like_body : goal.decreases-like_body
+decreases-like_body l = 10 * l.at.depth + 3

@@ -2,4 +2,4 @@ use Rattle.c2po_unfold.proofs.Several.{KnownSoFar, OfRow}
 use Rattle.c2po_unfold.proofs.unfolding.Unfolding.each_row.Given as goal
 
 abbrev pub invariant-loop-i : goal.invariant-loop-i
-invariant-loop-i l = KnownSoFar (OfRow l.self l.of.members.now l.fn.rows) l.i l.all.items
+invariant-loop-i l = KnownSoFar (OfRow l.self l.count l.members l.rows) l.i l.all.items

@@ -1,6 +1,6 @@
 use Rattle.std.proofs.Common.{subst, refl, sym, ap, length, arith, IfOk}
 use Rattle.c2po_unfold.specs.Values.{members}
-use Rattle.c2po_unfold.specs.Heads.{Heads}
+use Rattle.c2po_unfold.specs.Heads.{HeadsIn}
 use Rattle.c2po_unfold.specs.Scopes.{names_of}
 use Rattle.c2po_unfold.proofs.Members.{found_at, resolved_at}
 use Rattle.c2po_unfold.proofs.Parts.{set_count, members_count, member_open, member_held, no_member, other_members}
@@ -8,11 +8,11 @@ use Rattle.c2po_unfold.proofs.unfolding.Unfolding.member.Goals as goal
 
 pub returns-in-Some-clause-head : goal.returns-in-Some-clause-head
 returns-in-Some-clause-head c = λ m base s v k q.
-    let g = subst (λ h. Heads m c.args.self.now base h s) c.in-Set.is k in
+    let g = subst (λ h. HeadsIn m c.args.self.now base h s) c.in-Set.is k in
     let at = found_at _ _ _ _ refl c.in-Some.ensures.lookup.3.0 c.in-Some.ensures.lookup.1 in
     let is = member_open c.in-Set.members.now g.0 c.args.i c.in-Some.expr.now s v g.5 at q in
     let names = resolved_at c.in-Set.members.now c.args.self.now base (names_of c.in-Set.within.now) c.args.i c.in-Some.expr.now g.4 at in
-    subst (λ w. IfOk c.head.result (λ h. Heads m c.args.self.now base h w)) (sym is)
+    subst (λ w. IfOk c.head.result (λ h. HeadsIn m c.args.self.now base h w)) (sym is)
     (c.head.ensures.head m base g.0 (record { fits = g.1; resolved = names }))
 
 pub returns-in-None-clause-head : goal.returns-in-None-clause-head
@@ -23,13 +23,13 @@ returns-in-None-clause-head c = λ m base s v k q.
 pub returns-in-Some-get-clause-head : goal.returns-in-Some-get-clause-head
 returns-in-Some-get-clause-head c = λ m base s v k q.
     member_held s c.args.self.now c.held_members.result.now c.args.i c.in-Some-get.member.now v
-    (c.held_members.ensures s (subst (λ h. Heads m c.args.self.now base h s) c.in-Held.is k))
+    (c.held_members.ensures s (subst (λ h. HeadsIn m c.args.self.now base h s) c.in-Held.is k))
     (found_at _ _ _ _ refl c.in-Some-get.ensures.lookup.3.0 c.in-Some-get.ensures.lookup.1) q
 
 pub returns-in-None-get-clause-head : goal.returns-in-None-get-clause-head
 returns-in-None-get-clause-head c = λ m base s v k q.
     absurd (no_member (members s) c.args.i _ v
-    (members_count s c.args.self.now c.held_members.result.now (c.held_members.ensures s (subst (λ h. Heads m c.args.self.now base h s) c.in-Held.is k)))
+    (members_count s c.args.self.now c.held_members.result.now (c.held_members.ensures s (subst (λ h. HeadsIn m c.args.self.now base h s) c.in-Held.is k)))
     c.in-None-get.ensures.lookup.3 q)
 
 pub returns-in-Nothing-clause-head : goal.returns-in-Nothing-clause-head

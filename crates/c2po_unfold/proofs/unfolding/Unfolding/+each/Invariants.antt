@@ -1,0 +1,58 @@
+use Rattle.std.proofs.Common.{◌+◌, ◌*◌}
+use Rattle.c2po_unfold.specs.Ahead.{AreListed}
+use Rattle.c2po_unfold.proofs.Joining.{GatheredInCases, JoinedInCases, JoinedOver}
+use Rattle.c2po_unfold.proofs.unfolding.Unfolding.+each.Given as goal
+
+abbrev pub decreases-each_of : goal.decreases-each_of
+decreases-each_of l = 10 * l.at.depth
+
+abbrev pub decreases-each : goal.decreases-each
+decreases-each l = 10 * l.at.depth + 1
+
+abbrev pub decreases-each_head : goal.decreases-each_head
+decreases-each_head l = 10 * l.at.depth + 4
+
+abbrev pub decreases-each_column : goal.decreases-each_column
+decreases-each_column l = 10 * l.at.depth + 5
+
+abbrev pub decreases-each_joined : goal.decreases-each_joined
+decreases-each_joined l = 10 * l.at.depth + 6
+
+abbrev pub decreases-bodies_from : goal.decreases-bodies_from
+decreases-bodies_from l = 10 * l.at.depth + 4
+
+abbrev pub decreases-held_bodies : goal.decreases-held_bodies
+decreases-held_bodies l = 10 * l.at.depth + 3
+
+abbrev pub invariant-each_joined-loop-i : goal.invariant-each_joined-loop-i
+invariant-each_joined-loop-i l = JoinedInCases l.self l.at.scope.now l.set l.bodies l.op l.cases.count l.i l.all l.ahead
+
+abbrev pub decreases-each_counted : goal.decreases-each_counted
+decreases-each_counted l = 10 * l.at.depth + 6
+
+abbrev pub decreases-each_gathered : goal.decreases-each_gathered
+decreases-each_gathered l = 10 * l.at.depth + 5
+
+abbrev pub invariant-each_gathered-loop-i : goal.invariant-each_gathered-loop-i
+invariant-each_gathered-loop-i l = GatheredInCases l.self l.at.scope.now l.set l.bodies l.cases.count l.i l.all l.ahead
+
+abbrev pub decreases-one_body : goal.decreases-one_body
+decreases-one_body l = 10 * l.at.depth + 2
+
+abbrev pub decreases-each_body : goal.decreases-each_body
+decreases-each_body l = 10 * l.at.depth + 2
+
+abbrev pub decreases-open_bodies : goal.decreases-open_bodies
+decreases-open_bodies l = 10 * l.at.depth + 3
+
+abbrev pub decreases-listed : goal.decreases-listed
+decreases-listed l = 10 * l.at.depth + 2
+
+abbrev pub invariant-listed-loop-e : goal.invariant-listed-loop-e
+invariant-listed-loop-e l = AreListed l.self l.at.scope.now l.cases.count l.es l.e-index l.all.items
+
+abbrev pub decreases-joined_over : goal.decreases-joined_over
+decreases-joined_over l = 10 * l.at.depth + 5
+
+abbrev pub invariant-joined_over-loop-t : goal.invariant-joined_over-loop-t
+invariant-joined_over-loop-t l = JoinedOver l.self l.at.scope.now l.sets l.bodies l.op l.cases.count l.t l.all
