@@ -6,11 +6,12 @@
     bench/hostile_search.py build/c2po --for memory --keep worst.c2po
 
 A text has definitions over sets of members, which are numbers, signals or values of structs. Each is a quantifier over a set,
-with others within it, over a body that compares numbers, picks fields, adds and denies; it weighs less than 65,536, so that
-the text is legal. Some are outputs, as many as the limit of their weights lets be. The search begins with shapes at random,
-changes one number of a shape at a time, and goes on with what takes more. Each text that takes more than all before is
-printed: its seconds of user time, the peak of memory in MB, the code of the run, and its shape. A run ends after --seconds
-of user time. Code 8 is out of memory.
+or over each set of a set of sets, with others within it, and then with quantifiers over one member each, over a body that
+compares numbers, divides by them, picks fields, adds and denies; it weighs less than 65,536, and no divisor is 0, so that the
+text is legal. Some are outputs, as many as the limit of their weights lets be. The search begins with shapes at random,
+changes one number of a shape at a time, with fewer members where the text would weigh too much, and goes on with what takes
+more. Each text that takes more than all before is printed: its seconds of user time, the peak of memory in MB, the code of the
+run, and its shape. A run ends after --seconds of user time. Code 8 is out of memory.
 
 The status is 0, and 1 where a run ended otherwise than with code 0: each text is legal.
 """
@@ -29,6 +30,12 @@ from measure import measured
 MOST_WEIGHT = 65_536
 MOST_TOKENS = 1_000
 ROOM = 8 << 30
+COUNTING = ('foratmost', 'foratleast', 'forexactly')
+# What bodies do with the variables that are numbers: compare them, or divide by each, by a sum or by a difference. Of sums and
+# differences none is 0, but the range of all of them has it.
+AS_THEY_ARE, BY_EACH, BY_SUM, BY_DIFFERENCE = range(4)
+# The one member of a set that is quantified over: the variable before, the value of a struct that holds it, or a stored value.
+OF_VARIABLE, OF_STRUCT, OF_STORED = range(3)
 
 
 @dataclasses.dataclass(frozen=True)
@@ -40,7 +47,15 @@ class Shape:
     nesting: int = 2        # quantifiers within one another
     numeric: int = 0        # the outermost ones of these go over numbers
     counted: int = 0        # the innermost ones count
+    counting: int = 0       # how they count: at most, at least, exactly
     threshold: int = 1      # the number of those that count
+    grouped: int = 0        # the outermost ones go over each set of a set of sets
+    groups: int = 2         # sets in each of these
+    singles: int = 0        # quantifiers over one member each, within all others
+    single_kind: int = 0    # that member: the variable before, a struct with it, a stored value
+    single_counted: int = 0 # the innermost ones of these count
+    single_least: int = 0   # at least so many
+    division: int = 0       # what bodies do with numbers: compare them, divide by each, by a sum, by a difference
     fields: int = 2         # of each struct
     depth: int = 1          # structs within one another, which the body picks through
     uses: int = 1           # how often the body does so
@@ -51,10 +66,12 @@ class Shape:
     outputs: int = 0        # outputs, each of a definition
 
 
-LEAST = {'members': 1, 'distinct': 1, 'sets': 1, 'nesting': 1, 'numeric': 0, 'counted': 0, 'threshold': 0, 'fields': 1, 'depth': 0,
-         'uses': 1, 'sums': 0, 'denials': 0, 'labels': 1, 'linked': 0, 'outputs': 0}
-MOST = {'members': 400, 'distinct': 400, 'sets': 100, 'nesting': 40, 'numeric': 40, 'counted': 40, 'threshold': 200, 'fields': 100,
-        'depth': 400, 'uses': 40, 'sums': 60, 'denials': 60, 'labels': 60, 'linked': 50, 'outputs': 60_000}
+LEAST = {'members': 1, 'distinct': 1, 'sets': 1, 'nesting': 1, 'numeric': 0, 'counted': 0, 'counting': 0, 'threshold': 0,
+         'grouped': 0, 'groups': 1, 'singles': 0, 'single_kind': 0, 'single_counted': 0, 'single_least': 0, 'division': 0,
+         'fields': 1, 'depth': 0, 'uses': 1, 'sums': 0, 'denials': 0, 'labels': 1, 'linked': 0, 'outputs': 0}
+MOST = {'members': 400, 'distinct': 400, 'sets': 100, 'nesting': 40, 'numeric': 40, 'counted': 40, 'counting': 2, 'threshold': 200,
+        'grouped': 40, 'groups': 40, 'singles': 80, 'single_kind': 2, 'single_counted': 80, 'single_least': 2, 'division': 3,
+        'fields': 100, 'depth': 400, 'uses': 40, 'sums': 60, 'denials': 60, 'labels': 60, 'linked': 50, 'outputs': 60_000}
 
 
 def numbered_levels(shape):
@@ -71,40 +88,84 @@ def uses(shape):
     return shape.uses if numbered_levels(shape) < shape.nesting else 0
 
 
+def left_weight(shape):
+    """The weight of the left side of a comparison without what is added to it."""
+    levels = numbered_levels(shape)
+    if not levels or shape.division == AS_THEY_ARE:
+        return 1
+    if shape.division == BY_EACH:
+        return 4 * levels - 1
+    return 7 if levels > 1 else 5
+
+
 def body_weight(shape):
     """The weight of one body: denials, a comparison of a sum, the uses of a variable, and what joins these."""
     parts = compares(shape) + uses(shape)
-    return shape.denials + (2 * shape.sums + 3) * compares(shape) + uses(shape) + parts - 1
+    return shape.denials + (left_weight(shape) + 2 * shape.sums + 2) * compares(shape) + uses(shape) + parts - 1
+
+
+def counted_weight(members, threshold, inner):
+    """The weight of a quantifier that counts bodies of one weight."""
+    return members * inner + 2 * members * (min(members, threshold) + 1) + 4
 
 
 def weight(shape):
     """The weight of a definition."""
     inner = body_weight(shape)
-    for level in range(shape.nesting):
-        n = shape.members
-        if level < shape.counted:
-            inner = n * inner + 2 * n * (min(n, shape.threshold) + 1) + 4
+    for _ in range(min(shape.single_counted, shape.singles)):
+        inner = counted_weight(1, shape.single_least, inner)
+    for level in reversed(range(shape.nesting)):
+        if is_counted(shape, level):
+            inner = counted_weight(shape.members, shape.threshold, inner)
         else:
-            inner = n * inner + n - 1
+            inner = shape.members * (inner + 1) - 1
+        if level < shape.grouped:
+            inner = shape.groups * (inner + 1) - 1
     return inner + 2
 
 
+def is_counted(shape, level):
+    return shape.nesting - 1 - level < shape.counted
+
+
 def tokens(shape):
-    """About how many tokens a definition has."""
-    return shape.nesting * 10 + uses(shape) * (2 * shape.depth + 2) + 2 * shape.sums + shape.denials + 20
+    """About how many tokens a definition has, and not fewer."""
+    levels = 12 * (shape.nesting + min(shape.grouped, shape.nesting)) + 18 * shape.singles
+    divided = 4 * numbered_levels(shape) + 10 if shape.division else 0
+    return levels + divided + uses(shape) * (2 * shape.depth + 4) + 2 * shape.sums + shape.denials + 20
+
+
+def sets_weight(shape):
+    """The weight of the greatest set: of members, or of sets of them."""
+    plain = shape.members * (shape.depth * shape.fields + 1) + 1
+    return shape.groups * plain + 1 if shape.grouped else plain
 
 
 def is_legal(shape):
-    light = weight(shape) <= MOST_WEIGHT and weight(shape) * shape.outputs <= MOST_WEIGHT
+    light = max(weight(shape), weight(shape) * shape.outputs, sets_weight(shape)) <= MOST_WEIGHT
     return light and tokens(shape) <= MOST_TOKENS and max(shape.members, shape.distinct) <= MOST_TOKENS // 2 - 5
 
 
+def numeral(place):
+    """The number at a place among those that are members."""
+    return 3 * place + 1
+
+
+def never(shape, count):
+    """A number in the middle of all sums of so many members, which none of them is."""
+    return 3 * ((count * (shape.distinct - 1) + 1) // 2) + count - 1
+
+
 def sets_of(shape, letter, values):
-    """The sets of the members, each begun at another one."""
+    """The sets of the members, each begun at another one, a set of these, and a set of one member."""
     pieces = []
-    for number in range(shape.sets):
-        members = [values[(number + k) % len(values)] for k in range(shape.members)]
-        pieces.append('DEFINE %s%d := {%s};\n' % (letter, number, ', '.join(members)))
+    for place in range(shape.sets):
+        members = [values[(place + k) % len(values)] for k in range(shape.members)]
+        pieces.append('DEFINE %s%d := {%s};\n' % (letter, place, ', '.join(members)))
+    if shape.grouped:
+        members = ['%s%d' % (letter, k % shape.sets) for k in range(shape.groups)]
+        pieces.append('DEFINE all_%s := {%s};\n' % (letter, ', '.join(members)))
+    pieces.append('DEFINE one_%s := {%s};\n' % (letter, values[0]))
     return ''.join(pieces)
 
 
@@ -132,8 +193,21 @@ def head(shape):
         pieces += ['INPUT e%d: bool;\n' % k for k in range(shape.distinct)]
     pieces.append(sets_of(shape, 's', ['e%d' % k for k in range(shape.distinct)]))
     if numbered_levels(shape):
-        pieces.append(sets_of(shape, 'n', [str(k) for k in range(shape.distinct)]))
+        pieces.append(sets_of(shape, 'n', [str(numeral(k)) for k in range(shape.distinct)]))
+    pieces.append('STRUCT box: { a: %s; };\n' % kind_of_last(shape))
     return ''.join(pieces)
+
+
+def kind_of_last(shape):
+    """The type of the innermost variable over members."""
+    if letter_of(shape, shape.nesting - 1) == 'n':
+        return 'int'
+    return 't%d' % (shape.depth - 1) if shape.depth else 'bool'
+
+
+def letter_of(shape, level):
+    """The letter of the sets that a quantifier goes over: of numbers, or of the others."""
+    return 'n' if level < numbered_levels(shape) else 's'
 
 
 def variable(shape, level):
@@ -141,14 +215,65 @@ def variable(shape, level):
     return 'w' + ('v%d' % level).ljust(shape.labels, 'w')
 
 
+def last(shape):
+    """What the innermost variable stands for: a member, as it is or through quantifiers over one member each."""
+    if not shape.singles:
+        return variable(shape, shape.nesting - 1)
+    return single_variable(shape, shape.singles - 1) + '.a' * (shape.single_kind == OF_STRUCT)
+
+
+def numbers(shape):
+    """The variables that are numbers, the outermost first."""
+    levels = numbered_levels(shape)
+    names = [variable(shape, level) for level in range(levels)]
+    return names[:-1] + [last(shape)] if levels == shape.nesting else names
+
+
+def compared(shape):
+    """A comparison of what bodies do with numbers."""
+    names, added = numbers(shape), ' + 1' * shape.sums
+    if not names:
+        return 'x%s > 0' % added
+    if shape.division == AS_THEY_ARE:
+        return '%s%s > %s' % (names[-1], added, names[0] if len(names) > 1 else '0')
+    if shape.division == BY_EACH:
+        return '%s%s > 0' % (' + '.join('x / %s' % name for name in names), added)
+    if len(names) == 1:
+        divisor = '%s - %d' % (names[0], never(shape, 1))
+    elif shape.division == BY_SUM:
+        divisor = '%s + %s - %d' % (names[-1], names[0], never(shape, 2))
+    else:
+        divisor = '%s - %s + 1' % (names[-1], names[0])
+    return 'x / (%s)%s > 0' % (divisor, added)
+
+
 def body(shape):
-    numeric = numbered_levels(shape)
-    parts = [variable(shape, shape.nesting - 1) + '.f0' * shape.depth] * uses(shape)
+    parts = [last(shape) + '.f0' * shape.depth] * uses(shape)
     if compares(shape):
-        left = variable(shape, numeric - 1) if numeric else 'x'
-        right = variable(shape, 0) if numeric > 1 else '0'
-        parts.append('%s%s > %s' % (left, ' + 1' * shape.sums, right))
+        parts.append(compared(shape))
     return '!' * shape.denials + '(%s)' % ' || '.join(parts)
+
+
+def single_variable(shape, level):
+    return 'u' + ('v%d' % level).ljust(shape.labels, 'u')
+
+
+def singled(shape, text):
+    """A body within quantifiers over one member each."""
+    for level in reversed(range(shape.singles)):
+        before = single_variable(shape, level - 1) if level else variable(shape, shape.nesting - 1)
+        if shape.single_kind == OF_STRUCT:
+            members = '{box(%s%s)}' % (before, '.a' if level else '')
+        elif shape.single_kind == OF_VARIABLE:
+            members = '{%s}' % before
+        else:
+            members = 'one_' + letter_of(shape, shape.nesting - 1)
+        own = single_variable(shape, level)
+        if shape.singles - 1 - level < shape.single_counted:
+            text = 'foratleast(%s: %s, %d)(%s)' % (own, members, shape.single_least, text)
+        else:
+            text = 'foreach(%s: %s)(%s)' % (own, members, text)
+    return text
 
 
 def name_of(shape, number):
@@ -156,15 +281,16 @@ def name_of(shape, number):
 
 
 def definition(shape, number):
-    text = body(shape)
+    text = singled(shape, body(shape))
     for level in reversed(range(shape.nesting)):
-        own = variable(shape, level)
-        kind = 'n' if level < numbered_levels(shape) else 's'
-        members = '%s%d' % (kind, (number + level) % shape.sets)
-        if shape.nesting - 1 - level < shape.counted:
-            text = 'foratmost(%s: %s, %d)(%s)' % (own, members, shape.threshold, text)
+        own, letter = variable(shape, level), letter_of(shape, level)
+        members = 'm%s' % own if level < shape.grouped else '%s%d' % (letter, (number + level) % shape.sets)
+        if is_counted(shape, level):
+            text = '%s(%s: %s, %d)(%s)' % (COUNTING[shape.counting], own, members, shape.threshold, text)
         else:
             text = 'for%s(%s: %s)(%s)' % (('each', 'some')[level % 2], own, members, text)
+        if level < shape.grouped:
+            text = 'foreach(%s: all_%s)(%s)' % (members, letter, text)
     if shape.linked and number and number % shape.linked == 0:
         text = 't(p, %s, %s).a' % (name_of(shape, number - 1), text)
     return 'DEFINE %s := %s;\n' % (name_of(shape, number), text)
@@ -185,13 +311,20 @@ def text_of(shape, size):
         number += 1
 
 
+def fitted(shape):
+    """The shape, with fewer members where it isn't legal, and would be with these."""
+    while not is_legal(shape) and shape.members > 1:
+        shape = dataclasses.replace(shape, members=shape.members * 7 // 8)
+    return shape
+
+
 def changed(shape, chance):
-    """A legal shape with one number changed."""
+    """A legal shape with one number changed, and with fewer members where it would weigh too much."""
     for _ in range(200):
         name = chance.choice(list(LEAST))
         old = getattr(shape, name)
         new = chance.choice([old + 1, old - 1, old * 2, old // 2, old + chance.randint(-20, 20)])
-        other = dataclasses.replace(shape, **{name: max(LEAST[name], min(MOST[name], new))})
+        other = fitted(dataclasses.replace(shape, **{name: max(LEAST[name], min(MOST[name], new))}))
         if other != shape and is_legal(other):
             return other
     return shape

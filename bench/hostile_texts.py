@@ -49,6 +49,7 @@ NUMBERS = SIGNALS + 'DEFINE s := {' + members(128, '#') + '};\n'
 DIVISORS = SIGNALS + 'DEFINE s := {' + members(90, '1#') + '};\n'
 MIXED = SIGNALS + 'DEFINE s := {' + ', '.join(['p, !p'] * 57) + '};\n'
 SUMMANDS = SIGNALS + 'DEFINE s := {' + ', '.join(str(3 * k + 1) for k in range(80)) + '};\n'
+COUNTED_DIVISORS = SIGNALS + 'DEFINE s := {' + members(63, '1#') + '};\n'
 DEEPEST = 400
 DEEP = SIGNALS + 'STRUCT t0: { f: bool; };\n' + ''.join(
     'STRUCT t%d: { f: t%d; };\n' % (k + 1, k) for k in range(DEEPEST)) + 'DEFINE d0 := t0(p);\n' + ''.join(
@@ -141,13 +142,35 @@ def passed(number):
     return 'a%d:=foreach(v:s)(foreach(w:s)(%s%s));\n' % (number, body, last + ')' * 60)
 
 
-def passed_number(number):
-    """A definition over pairs of numbers, whose bodies divide by one after 60 quantifiers over one struct each."""
-    body, last = '', 'w'
-    for k in range(60):
-        body += 'foreach(v%d:{t(%s)})(' % (k, last)
+def passed_number(body, levels=60):
+    """A definition over pairs of numbers, whose bodies use one after so many quantifiers over one struct each."""
+    head, last = '', 'w'
+    for k in range(levels):
+        head += 'foreach(v%d:{t(%s)})(' % (k, last)
         last = 'v%d.a' % k
-    return 'a%d:=foreach(v:s)(foreach(w:s)(%sx/%s<x/v%s));\n' % (number, body, last, ')' * 60)
+    return 'a#:=foreach(v:s)(foreach(w:s)(%s%s%s));\n' % (head, body.replace('w', last), ')' * levels)
+
+
+def sets_of_sets(sizes, count):
+    """Sets of numbers of these sizes, and a set of so many of them, in turn."""
+    sets = ['s%d:={%s};\n' % (k, ', '.join(str(3 * (k + i) + 1) for i in range(size))) for k, size in enumerate(sizes)]
+    return ''.join(sets) + 'z:={%s};\n' % ', '.join('s%d' % (k % len(sizes)) for k in range(count))
+
+
+def within_singles(body, levels):
+    """A body within so many quantifiers over one stored struct each."""
+    return ''.join('foreach(v%d:{t0})(' % k for k in range(levels)) + body + ')' * levels
+
+
+def kinds(weights):
+    """Formulas of so many weights, each with each of the tenses: all of them as a set, and those of less weight as another."""
+    names, lines = [], []
+    for k in range(weights):
+        for tense, operator in enumerate(('', 'F[0,1]', 'O[0,1]', 'F[0,1]O[0,1]')):
+            names.append('k%d_%d' % (k, tense))
+            lines.append('%s:=%s(%sp);\n' % (names[-1], operator, '!' * k))
+    sets = 's:={%s};\nr:={%s};\n' % (','.join(names), ','.join(names[:36]))
+    return SIGNALS + 'STRUCT t: { a: bool; };\nDEFINE\nt0:=t(p);\n' + ''.join(lines) + sets
 
 
 def within_one_another(variables):
@@ -210,7 +233,32 @@ TEXTS = [
     filled('passed-picks', 'quantifiers over one struct each, within one over pairs of members of two kinds',
            MIXED + 'STRUCT t: { a: bool; };\nDEFINE\n', passed, 'FTSPEC p;\n'),
     filled('passed-numbers', 'the same over pairs of numbers, whose bodies divide',
-           DIVISORS + 'STRUCT t: { a: int; };\nDEFINE\n', passed_number, 'FTSPEC p;\n'),
+           DIVISORS + 'STRUCT t: { a: int; };\nDEFINE\n', numbered(passed_number('x/w<x/v')), 'FTSPEC p;\n'),
+    filled('literal-numbers', '40 such quantifiers, where the sets are written out in each definition',
+           SIGNALS + 'STRUCT t: { a: int; };\nDEFINE\n',
+           numbered(passed_number('x/w<x/v', 40).replace(':s)', ':{%s})' % ','.join(map(str, range(10, 100))))), 'FTSPEC p;\n'),
+    filled('chained-structs', 'the same, where they divide by sums of which none is 0, though their range has it',
+           SUMMANDS + 'STRUCT t: { a: int; };\nDEFINE\n', numbered(passed_number('x/(w+v-100)<0')), 'FTSPEC p;\n'),
+    filled('counted-numbers', 'unused definitions over pairs of numbers, whose bodies count over one number and divide',
+           COUNTED_DIVISORS + 'DEFINE\n', numbered('a#:=foreach(v:s)(foreach(w:s)(foratleast(u:{w},1)(x/v<x/u)));\n'), 'FTSPEC p;\n'),
+    filled('sets-of-sets', 'unused definitions over pairs of numbers from a set of sets of two and three',
+           SIGNALS + 'DEFINE\n' + sets_of_sets((2, 3), 50),
+           numbered('a#:=foreach(y:z)(foreach(v:y)(foreach(u:z)(foreach(w:u)(v<w))));\n'), 'FTSPEC p;\n'),
+    filled('mixed-sets', 'the same from a set of sets of one and two', SIGNALS + 'DEFINE\n' + sets_of_sets((1, 2), 84),
+           numbered('a#:=foreach(y:z)(foreach(v:y)(foreach(u:z)(foreach(w:u)(v<w))));\n'), 'FTSPEC p;\n'),
+    filled('uneven-sets', 'the same from a set of sets of one and of nine', SIGNALS + 'DEFINE\n' + sets_of_sets((1,) * 8 + (9,), 63),
+           numbered('a#:=foreach(y:z)(foreach(v:y)(foreach(u:z)(foreach(w:u)(v<w))));\n'), 'FTSPEC p;\n'),
+    filled('passed-sets', 'the same over sets of two and three, within 60 quantifiers over one struct each',
+           SIGNALS + 'STRUCT t: { a: bool; };\nDEFINE\nt0:=t(p);\n' + sets_of_sets((2, 3), 50),
+           numbered('a#:=foreach(y:z)(foreach(v:y)(foreach(u:z)(foreach(w:u)(%s))));\n' % within_singles('v<w', 60)),
+           'FTSPEC p;\n'),
+    filled('passed-kinds', 'such quantifiers within pairs of formulas of 68 kinds', kinds(17),
+           numbered('a#:=foreach(v:r)(foreach(w:s)(%s));\n' % within_singles('v||w', 60)), 'FTSPEC p;\n'),
+    filled('literal-structs', '30 such quantifiers within pairs of structs that are written out in each definition',
+           SIGNALS + 'STRUCT t: { a: int; };\nDEFINE\nt0:=t(1);\n',
+           numbered('a#:=foreach(v:{%s})(foreach(w:{%s})(%s));\n' % (
+               ','.join('t(%d)' % k for k in range(10, 60)), ','.join('t(%d)' % k for k in range(10, 60)),
+               within_singles('x/v.a<x/w.a', 30))), 'FTSPEC p;\n'),
     Text('output-picks', 'such a chain in the 32,000 bodies of one output, in 25 KB', output_picks),
     filled('single', 'quantifiers over one member each, within one over pairs', LARGEST + 'DEFINE\n', chained, 'FTSPEC p;\n'),
     Text('nested-picks', '23 quantifiers within one another over picked fields', lambda: picked_within(23)),

@@ -1,10 +1,12 @@
-"""The plain monitor in C++ prints the lines of r2u2, and bench/run reports where a baseline doesn't."""
+"""The plain monitor in C++ prints the lines of r2u2, bench/run reports where a baseline doesn't, and hostile texts are legal."""
 
+import itertools
 import random
 import subprocess
 import sys
 import shutil
 import unittest
+from unittest import mock
 
 import random_specs
 from support import ROOT, Case, program
@@ -14,6 +16,7 @@ BENCH = ROOT / "bench"
 sys.path.insert(0, str(BENCH))
 
 import hostile_search
+import hostile_texts
 
 
 class Plain(Case):
@@ -60,11 +63,50 @@ class Runner(Case):
             self.assertEqual(list(self.folder.glob("bench-*")), [])
 
 
-class Search(Case):
+class Legal(Case):
+    """Texts that c2po compiles."""
+
+    def compiled(self, text, what):
+        spec = self.file("spec.c2po", text)
+        ran = subprocess.run(
+            [program("c2po"), "-o", str(self.folder / "spec.obs"), str(spec)], stdout=subprocess.PIPE, stderr=subprocess.STDOUT
+        )
+        self.assertEqual((ran.returncode, ran.stdout), (0, b""), what)
+
+
+class Search(Legal):
     def test_shapes_are_legal(self):
-        out = self.folder / "spec.obs"
         for seed in range(SPECS):
             shape = hostile_search.at_random(random.Random(seed))
-            text = hostile_search.text_of(shape, 20_000)
-            spec = self.file("spec.c2po", text)
-            subprocess.run([program("c2po"), "-o", str(out), str(spec)], check=True)
+            self.compiled(hostile_search.text_of(shape, 20_000), shape)
+
+    def test_each_form_is_legal(self):
+        """What bodies do with numbers, over each kind of a single member, counted or not, within sets of sets or not."""
+        for division, kind, counted, grouped, numeric in itertools.product(range(4), range(3), (0, 2), (0, 2), (0, 2, 3)):
+            shape = hostile_search.Shape(
+                members=3, distinct=5, sets=2, nesting=3, numeric=numeric, counted=1, grouped=grouped, groups=2, singles=3,
+                single_kind=kind, single_counted=counted, single_least=1, division=division,
+            )
+            self.assertTrue(hostile_search.is_legal(shape), shape)
+            self.compiled(hostile_search.text_of(shape, 3_000), shape)
+
+    def test_no_sum_is_what_is_taken_from_it(self):
+        """No sum of one member or of two is the number that is taken from it, which is within the range of all sums."""
+        for distinct, count in itertools.product(range(2, 60), (1, 2)):
+            numbers = [hostile_search.numeral(place) for place in range(distinct)]
+            sums = [sum(those) for those in itertools.product(numbers, repeat=count)]
+            never = hostile_search.never(hostile_search.Shape(distinct=distinct), count)
+            self.assertNotIn(never, sums)
+            self.assertTrue(min(sums) < never < max(sums), (distinct, count))
+
+
+class Texts(Legal):
+    # Their names and numbers are searched for, in some minutes.
+    SEARCHED = ("colliding", "constants")
+
+    def test_texts_are_legal(self):
+        """Each of as many items as 16 KiB hold."""
+        with mock.patch.object(hostile_texts, "BYTES", 1 << 14):
+            for text in hostile_texts.TEXTS:
+                if text.name not in self.SEARCHED:
+                    self.compiled(text.make(), text.name)
