@@ -1,7 +1,6 @@
 -- What variables are in several cases, in more of them.
 
-use Rattle.std.proofs.Common.{◌≡◌, ℕ, zero, suc, ◌+◌, ◌*◌, ◌%◌, ◌<◌, Some, List, ◌∷◌, length, slice_get, refl, sym, subst, ap, ◌∙◌, arith}
-use Rattle.std.proofs.Math.Nat.{add-mul-mod_self_left, mod-eq_of_lt, mul-add, mul_assoc}
+use Rattle.std.proofs.Common.{◌≡◌, ℕ, zero, suc, ◌+◌, ◌*◌, ◌<◌, Some, List, ◌∷◌, slice_get, refl, sym, subst, ap, ◌∙◌, arith}
 use Rattle.std.proofs.lemmas.Option.{same_Some}
 use Rattle.c2po_unfold.specs.declared.resolved.Quantified.{Quantified}
 use Rattle.c2po_unfold.specs.declared.resolved.Resolved.{Resolved, Unary', Binary'}
@@ -11,11 +10,12 @@ use Rattle.c2po_unfold.specs.Operators.{binary_value, unary_value}
 use Rattle.c2po_unfold.specs.Resolving.{IsResolved, resolved_value}
 use Rattle.c2po_unfold.specs.declared.scope.Head.{Head}
 use Rattle.c2po_unfold.specs.declared.scope.Head.TheVariants as head
+use Rattle.c2po_unfold.specs.declared.scope.Choice.{Choice}
 use Rattle.c2po_unfold.specs.declared.scope.Member.{Member}
 use Rattle.c2po_unfold.specs.declared.scope.Scope.{Scope, Top, Open', Held', Covered', Varied'}
 use Rattle.c2po_unfold.specs.declared.unfolding.Unfolding.{Unfolding}
 use Rattle.c2po_unfold.specs.Bodies.{MeetsBodyIn}
-use Rattle.c2po_unfold.specs.Cases.{Case, only, nth, mode_in, IsMember, IsVaried}
+use Rattle.c2po_unfold.specs.Cases.{Case, only, chosen, mode_in, IsMember, IsReached, IsVaried}
 use Rattle.c2po_unfold.specs.Covering.{Mode}
 use Rattle.c2po_unfold.specs.Environment.{Env}
 use Rattle.c2po_unfold.specs.Heads.{HeadsIn}
@@ -26,7 +26,7 @@ use Rattle.c2po_unfold.specs.Values.{Value}
 -- what a variable is in a case, it is in another one
 pub record IsFurther (c d : Case) (u : Unfolding) : Type 0 where
   pub mode : mode_in d ≡ mode_in c
-  pub varied : (ms : List Member) (v : Value) → IsVaried c u ms v → IsVaried d u ms v
+  pub varied : (choice : Choice) (v : Value) → IsVaried c u choice v → IsVaried d u choice v
 
 pub fits_further : (c d : Case) (base : Env) (u : Unfolding) (scope : Scope) (env : Env) → IsFurther c d u → FitsIn c u base scope env → FitsIn d u base scope env
 fits_further c d base u Top env f h = h
@@ -35,7 +35,7 @@ fits_further c d base u (Open' x e p within q outer) env f h =
 fits_further c d base u (Held' x s i q outer) env f h = (h.0, h.1, h.2, fits_further c d base u outer h.1 f h.3, h.4)
 fits_further c d base u (Covered' x s q outer) env f h =
     (h.0, h.1, subst (λ m. IsOfLeaf m s.now h.0) (sym f.mode) h.2, fits_further c d base u outer h.1 f h.3, h.4)
-fits_further c d base u (Varied' x ms q outer) env f h = (h.0, h.1, f.varied ms.now h.0 h.2, fits_further c d base u outer h.1 f h.3, h.4)
+fits_further c d base u (Varied' x choice q outer) env f h = (h.0, h.1, f.varied choice h.0 h.2, fits_further c d base u outer h.1 f h.3, h.4)
 
 pub heads_further : (c d : Case) (base : Env) (u : Unfolding) (h : Head) (v : Value) → IsFurther c d u → HeadsIn c u base h v → HeadsIn d u base h v
 heads_further c d base u (head.Nothing scope e) v f k = absurd k
@@ -44,19 +44,25 @@ heads_further c d base u (head.Set scope e es) v f k = (k.0, fits_further c d ba
 heads_further c d base u (head.Leaf scope e) v f k = (k.0, fits_further c d base u scope.now k.0 f k.1, k.2, k.3, k.4)
 heads_further c d base u (head.Held s) v f k = k
 heads_further c d base u (head.Covered s) v f k = subst (λ m. IsOfLeaf m s.now v) (sym f.mode) k
-heads_further c d base u (head.Varied ms) v f k = f.varied ms.now v k
+heads_further c d base u (head.Varied choice) v f k = f.varied choice v k
 
 -- where each variable has one value, it has that in any case
-pub only_further : (m : Mode) (n i : ℕ) (u : Unfolding) → IsFurther (only m) (nth m n i) u
-only_further m n i u = record { mode = refl; varied = λ ms v h. absurd h }
+pub only_further : (m : Mode) (path : List ℕ) (u : Unfolding) → IsFurther (only m) (chosen m path) u
+only_further m path u = record { mode = refl; varied = λ choice v h. absurd h }
 
--- a case in the first of several rounds is one in each of them
-pub nth_further : (m : Mode) (n i k j : ℕ) (u : Unfolding) → IsFurther (nth m n i) (nth m (n * k) (i + n * j)) u
-nth_further m n i k j u = record {
+-- what a case chooses, it chooses where its path has a number more
+pub reached_further : (m : Mode) (old new : List ℕ) (level number : ℕ) (u : Unfolding) → IsReached old new level number → IsFurther (chosen m old) (chosen m new) u
+reached_further m old new level number u reached = record {
   mode = refl;
-  varied = λ ms v h t x at.
-      let same : (i + n * j) + (n * k) * t ≡ i + n * (j + k * t) = omega (arith, mul-add n j (k * t), mul_assoc n k t) in
-      h (j + k * t) x (subst (λ z. slice_get ms (z % length ms) ≡ Some x) same at);
+  varied = λ choice v h. (h.0, reached.kept choice.level h.0 h.1, h.2);
+}
+
+-- so what holds of the variables around a body holds of them there
+pub body_further : (m : Mode) (old new : List ℕ) (level number : ℕ) (u : Unfolding) (base : Env) (scope : Scope) (env : Env) (q : Quantified) →
+    IsReached old new level number → MeetsBodyIn (chosen m old) u base scope env q → MeetsBodyIn (chosen m new) u base scope env q
+body_further m old new level number u base scope env q reached h = record {
+  fits = fits_further (chosen m old) (chosen m new) base u scope env (reached_further m old new level number u reached) h.fits;
+  resolved = h.resolved;
 }
 
 -- a case of the first round has its number there
@@ -64,14 +70,11 @@ pub first_case : (i n j : ℕ) → j < 1 → i ≡ i + n * j
 first_case i n zero h = omega arith
 first_case i n (suc j) h = absurd (omega (arith, h))
 
--- one of as many members as there are cases is in turn in the case with its number
-pub varied_here : (m : Mode) (n i : ℕ) (u : Unfolding) (ms : List Member) (x : Member) (v : Value) → length ms ≡ n → i < n → slice_get ms i ≡ Some x →
-    IsMember m u x v → IsVaried (nth m n i) u ms v
-varied_here m n i u ms x v count inside at h = λ t y there.
-    let turn : (i + n * t) % length ms ≡ i =
-    ap (λ k. (i + n * t) % k) count ∙ (add-mul-mod_self_left i n t ∙ mod-eq_of_lt inside) in
-    let same : x ≡ y = same_Some x y (sym at ∙ subst (λ k. slice_get ms k ≡ Some y) turn there) in
-    subst (λ z. IsMember m u z v) same h
+-- the member with the number that a case has at a level is the one that it chooses there
+pub varied_here : (m : Mode) (path : List ℕ) (ms : List Member) (level i : ℕ) (u : Unfolding) (x : Member) (v : Value) → slice_get path level ≡ Some i →
+    slice_get ms i ≡ Some x → IsMember m u x v →
+    (k : ℕ) × (slice_get path level ≡ Some k) × ((y : Member) → slice_get ms k ≡ Some y → IsMember m u y v)
+varied_here m path ms level i u x v at here h = (i, at, λ y there. subst (λ z. IsMember m u z v) (same_Some x y (sym here ∙ there)) h)
 
 -- the names of a part are resolved where those of the whole are
 pub part_meets : (c : Case) (u : Unfolding) (base : Env) (scope : Scope) (env : Env) (e d : Resolved) → MeetsIn c u base scope env e →

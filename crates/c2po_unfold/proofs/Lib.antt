@@ -6,6 +6,7 @@ pub mod Gathering
 pub mod Holding
 pub mod Joining
 pub mod Knowing
+pub mod Lanewise
 pub mod Later
 pub mod Leading
 pub mod Loops
@@ -13,6 +14,7 @@ pub mod Meaning
 pub mod Members
 pub mod Names
 pub mod Parts
+pub mod Pathwise
 pub mod Picking
 pub mod Placing
 pub mod Quantifying

@@ -1,6 +1,6 @@
 -- What is known of expressions in several cases at once.
 
-use Rattle.std.proofs.Common.{◌≡◌, ℕ, zero, suc, ◌+◌, ◌-◌, ◌*◌, ◌/◌, ◌%◌, ◌<◌, ◌≤◌, Option, Some, None, IfSome, List, [], ◌∷◌, ◌++◌, ◌⊎◌, inl, inr, length, get_or, slice_get, Bor, refl, sym, subst, ap, ◌∙◌, arith}
+use Rattle.std.proofs.Common.{◌≡◌, ℕ, zero, suc, ◌+◌, ◌-◌, ◌*◌, ◌/◌, ◌<◌, ◌≤◌, Option, Some, None, List, [], ◌∷◌, ◌++◌, ◌⊎◌, inl, inr, length, get_or, slice_get, Bor, refl, sym, subst, ap, ◌∙◌, arith}
 use Rattle.std.specs.Slice.{IsGetRangeResult, IsItemAt}
 use Rattle.std.proofs.Math.ListN.{drop}
 use Rattle.std.proofs.Math.Nat.{add-mul-div_left, div-eq_of_lt, mul-le-mul_left, mul-suc, mul-zero}
@@ -14,18 +14,17 @@ use Rattle.c2po_unfold.specs.declared.operators.UnaryOp.{UnaryOp}
 use Rattle.c2po_unfold.specs.declared.operators.BinaryOp.{BinaryOp}
 use Rattle.c2po_unfold.specs.declared.operators.BinaryOp.TheVariants.{Logic}
 use Rattle.mltl_base.specs.declared.operators.LogicOp.{LogicOp}
-use Rattle.c2po_unfold.specs.declared.resolved.Row.{Row}
 use Rattle.c2po_unfold.specs.declared.resolved.Resolved.{Resolved}
 use Rattle.c2po_unfold.specs.declared.scope.Member.{Member}
 use Rattle.c2po_unfold.specs.declared.scope.Scope.{Scope}
 use Rattle.c2po_unfold.specs.declared.summary.Summary.{Summary}
 use Rattle.c2po_unfold.specs.declared.unfolding.Unfolding.{Unfolding}
 use Rattle.c2po_unfold.specs.declared.values.Stored.{Stored}
-use Rattle.c2po_unfold.specs.Ahead.{AreListed, GatheredFor, HasMember, IsGathered, IsListed, KnownFor, RowsLead, known_at}
-use Rattle.c2po_unfold.specs.Cases.{IsMember, IsVaried, nth}
+use Rattle.c2po_unfold.specs.Ahead.{AreListed, GatheredFor, HasMember, IsGathered, IsListed, KnownFor, known_at}
+use Rattle.c2po_unfold.specs.Cases.{chosen, path_of}
+use Rattle.c2po_unfold.specs.declared.path.Path.{Path}
 use Rattle.c2po_unfold.specs.Covering.{Mode}
 use Rattle.c2po_unfold.specs.Environment.{Env}
-use Rattle.c2po_unfold.specs.Heads.{HoldMembers}
 use Rattle.c2po_unfold.specs.Holding.{Holds}
 use Rattle.c2po_unfold.specs.Resolving.{resolved_value}
 use Rattle.c2po_unfold.specs.Scopes.{MeetsIn}
@@ -34,7 +33,7 @@ use Rattle.c2po_unfold.specs.Summaries.{IsSummary}
 use Rattle.c2po_unfold.specs.Values.{Value, connected_all, counted, members}
 
 -- a number that is at most another one is less, or the same
-or_last : (j k : ℕ) → j < k + 1 → (j < k) ⊎ (j ≡ k)
+pub or_last : (j k : ℕ) → j < k + 1 → (j < k) ⊎ (j ≡ k)
 or_last zero zero h = inr refl
 or_last zero (suc k) h = inl (omega arith)
 or_last (suc j) zero h = absurd (omega (arith, h))
@@ -120,14 +119,6 @@ turn_within i n j k inside round =
 pub round_of : (i n j : ℕ) → i < n → (i + n * j) / n ≡ j
 round_of i n j inside = add-mul-div_left i j (omega (arith, inside)) ∙ (ap (λ k. k + j) (div-eq_of_lt inside) ∙ omega arith)
 
--- the value of the member in turn
-abbrev pub OfTurn : Unfolding → ℕ → List Member → Mode → ℕ → Value → Type 0
-OfTurn u n ms m i v = IsVaried (nth m n i) u ms v
-
--- the value that rows have for the member in turn
-abbrev pub OfRow : Unfolding → ℕ → List Member → List Row → Mode → ℕ → Value → Type 0
-OfRow u n ms rows m i v = (w : Value) × IsVaried (nth m n i) u ms w × RowsLead u rows w v
-
 -- what is known for the value with a number is so of it
 pub known_here : (m : Mode) (each : Each) (i : ℕ) (v : Value) (s : Summary) → KnownFor m each i v → known_at each i ≡ Some s → IsSummary m s v
 known_here m each i v s h at = subst (λ r. IsSummary m r v) (same_Some h.0 s (sym h.1 ∙ at)) h.2
@@ -160,13 +151,6 @@ lent_at xs i o x h is =
     let g = subst (IsItemAt xs i) is h in
     slice_get_read xs (length xs) i x.now refl g.3.0 g.1
 
--- the member in turn has the value
-pub turn_holds : (m : Mode) (n i : ℕ) (u : Unfolding) (ms : List Member) (v : Value) (x : Member) → IsVaried (nth m n i) u ms v →
-    slice_get ms (i % length ms) ≡ Some x → IsMember m u x v
-turn_holds m n i u ms v x h at =
-    let here : i ≡ i + n * 0 = omega arith in
-    h 0 x (subst (λ k. slice_get ms (k % length ms) ≡ Some x) here at)
-
 -- what is known in the first cases, after other members
 pub listed_none : (each : Each) (old : List Member) → IsListed each 0 old old
 listed_none each old = record { count = omega arith; kept = λ k x at. at; listed = λ i inside. absurd (omega (arith, inside)) }
@@ -195,31 +179,34 @@ listed_more each i old now new x h longer known unstored = record {
         )
 
 -- what is known of the first expressions, and of one more
-pub are_listed_none : (u : Unfolding) (scope : Scope) (n : ℕ) (es : List Resolved) (all : List Member) → all ≡ [] → AreListed u scope n es 0 all
-are_listed_none u scope n es all none = record {
-  count = ap length none ∙ sym (mul-zero n);
-  each = λ m base env i j e inside first. absurd (omega (arith, first));
+pub are_listed_none : (u : Unfolding) (scope : Scope) (paths : List Path) (es : List Resolved) (all : List Member) → all ≡ [] → AreListed u scope paths es 0 all
+are_listed_none u scope paths es all none = record {
+  count = ap length none ∙ sym (mul-zero (length paths));
+  each = λ m base env i j p e inside first. absurd (omega (arith, first));
 }
 
-pub are_listed_more : (u : Unfolding) (scope : Scope) (n : ℕ) (es : List Resolved) (t : ℕ) (e : Resolved) (old new : List Member) (each : Each) → AreListed u scope n es t old →
-    slice_get es t ≡ Some e → IsListed each n old new →
-    ((m : Mode) (base env : Env) (i : ℕ) → i < n → MeetsIn (nth m n i) u base scope env e → KnownFor m each i (resolved_value e env)) →
-    AreListed u scope n es (t + 1) new
-are_listed_more u scope n es t e old new each h at more known = record {
+pub are_listed_more : (u : Unfolding) (scope : Scope) (paths : List Path) (es : List Resolved) (t : ℕ) (e : Resolved) (old new : List Member) (each : Each) →
+    AreListed u scope paths es t old → slice_get es t ≡ Some e → IsListed each (length paths) old new →
+    ((m : Mode) (base env : Env) (i : ℕ) (p : Path) → slice_get paths i ≡ Some p → MeetsIn (chosen m (path_of p)) u base scope env e →
+    KnownFor m each i (resolved_value e env)) → AreListed u scope paths es (t + 1) new
+are_listed_more u scope paths es t e old new each h at more known = record {
   count = more.count ∙ omega (arith, h.count, mul-suc n t);
-  each = λ m base env i j d inside round there meets. by m base env i j d inside there meets (or_last j t round);
+  each = λ m base env i j p d inside round there meets. by m base env i j p d inside there meets (or_last j t round);
 }
   where
-    by : (m : Mode) (base env : Env) (i j : ℕ) (d : Resolved) → i < n → slice_get es j ≡ Some d → MeetsIn (nth m n i) u base scope env d → (j < t) ⊎ (j ≡ t) →
-        HasMember m u new (i + n * j) (resolved_value d env)
-    by m base env i j d inside there meets (inl round) =
-        let g = h.each m base env i j d inside round there meets in
+    n : ℕ
+    n = length paths
+
+    by : (m : Mode) (base env : Env) (i j : ℕ) (p : Path) (d : Resolved) → slice_get paths i ≡ Some p → slice_get es j ≡ Some d →
+        MeetsIn (chosen m (path_of p)) u base scope env d → (j < t) ⊎ (j ≡ t) → HasMember m u new (i + n * j) (resolved_value d env)
+    by m base env i j p d inside there meets (inl round) =
+        let g = h.each m base env i j p d inside round there meets in
         (g.0, more.kept (i + n * j) g.0 g.1, g.2)
-    by m base env i j d inside there meets (inr last) =
+    by m base env i j p d inside there meets (inr last) =
         let same : e ≡ d = same_Some e d (sym at ∙ subst (λ k. slice_get es k ≡ Some d) last there) in
-        let g = more.listed i inside in
+        let g = more.listed i (slice_get_within paths i p inside) in
         let place : length old + i ≡ i + n * j = subst (λ k. length old + i ≡ i + n * k) (sym last) (omega (arith, h.count)) in
-        let own = known m base env i inside (subst (λ x. MeetsIn (nth m n i) u base scope env x) (sym same) meets) in
+        let own = known m base env i p inside (subst (λ x. MeetsIn (chosen m (path_of p)) u base scope env x) (sym same) meets) in
         let is = subst (λ x. IsSummary m g.0.summary (resolved_value x env)) same (known_here m each i (resolved_value e env) g.0.summary own g.2) in (
           g.0,
           subst (λ k. slice_get new k ≡ Some g.0) place g.1,
@@ -239,37 +226,3 @@ same_more s t i all h at same = record { each = λ j k inside there. by j k ther
     by : (j : ℕ) (k : Summary) → slice_get all j ≡ Some k → (j < i) ⊎ (j ≡ i) → k ≡ s
     by j k there (inl inside) = h.each j k inside there
     by j k there (inr last) = same_Some k t (sym there ∙ subst (λ n. slice_get all n ≡ Some t) (sym last) at) ∙ sym same
-
--- the member with a number of the set of a case
-abbrev pub OfSet : Unfolding → List Member → ℕ → ℕ → Mode → ℕ → Value → Type 0
-OfSet u sets t n m i v = (s : Value) × IsVaried (nth m n i) u sets s × (slice_get (members s) t ≡ Some v)
-
--- joined bodies with one more where the set of a case has a member with a number, else as they are
-abbrev pub OfWhere : Unfolding → LogicOp → Each → Each → List Member → ℕ → ℕ → Mode → ℕ → Value → Type 0
-OfWhere u op joined next sets t n m i x = (s : Value) × (v : Value) × IsVaried (nth m n i) u sets s × KnownFor m joined i v
-    × (((t < length (members s)) × ((w : Value) × KnownFor m next i w × (x ≡ binary_value (Logic op) v w))) ⊎ ((length (members s) ≤ t) × (x ≡ v)))
-
--- no set of the first cases has more members, and each has one
-pub record MostSoFar (u : Unfolding) (sets : List Member) (i most : ℕ) : Type 0 where
-  pub some : 0 < most
-  pub each : (m : Mode) (n j : ℕ) (s : Value) → j < i → IsVaried (nth m n j) u sets s → (0 < length (members s)) × (length (members s) ≤ most)
-
--- what holds of the value that a variable has in a case, of the stored members of its set
-pub set_members : (s : Value) (u : Unfolding) (o : Option (Bor (List Stored))) (ms : Bor (List Stored)) → IfSome o (λ (xs : Bor (List Stored)). HoldMembers u xs.now s) → o ≡ Some ms →
-    HoldMembers u ms.now s
-set_members s u o ms h is = subst (λ p. IfSome p (λ (xs : Bor (List Stored)). HoldMembers u xs.now s)) is h
-
-pub most_more : (u : Unfolding) (sets : List Member) (i most new count : ℕ) → MostSoFar u sets i most → most ≤ new → count ≤ new → 0 < count →
-    ((m : Mode) (n : ℕ) (s : Value) → IsVaried (nth m n i) u sets s → count ≡ length (members s)) → MostSoFar u sets (i + 1) new
-most_more u sets i most new count h wider within some is = record {
-  some = omega (arith, h.some, wider);
-  each = λ m n j s inside varied. by m n j s varied (or_last j i inside);
-}
-  where
-    by : (m : Mode) (n j : ℕ) (s : Value) → IsVaried (nth m n j) u sets s → (j < i) ⊎ (j ≡ i) → (0 < length (members s)) × (length (members s) ≤ new)
-    by m n j s varied (inl inside) =
-        let g = h.each m n j s inside varied in
-        (g.0, omega (arith, g.1, wider))
-    by m n j s varied (inr last) =
-        let same = is m n s (subst (λ k. IsVaried (nth m n k) u sets s) last varied) in
-        (omega (arith, same, some), omega (arith, same, within))

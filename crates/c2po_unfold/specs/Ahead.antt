@@ -5,6 +5,7 @@ use Rattle.c2po_unfold.specs.declared.each.Each.{Each}
 use Rattle.c2po_unfold.specs.declared.each.Each.TheVariants.{Same, Own}
 use Rattle.c2po_unfold.specs.declared.known.Ahead.{Ahead}
 use Rattle.c2po_unfold.specs.declared.known.Known.{Known}
+use Rattle.c2po_unfold.specs.declared.path.Path.{Path}
 use Rattle.c2po_unfold.specs.declared.resolved.Quantified.{Quantified}
 use Rattle.c2po_unfold.specs.declared.resolved.Resolved.{Resolved}
 use Rattle.c2po_unfold.specs.declared.resolved.Row.{Row}
@@ -13,8 +14,9 @@ use Rattle.c2po_unfold.specs.declared.scope.Head.{Head}
 use Rattle.c2po_unfold.specs.declared.scope.Scope.{Scope}
 use Rattle.c2po_unfold.specs.declared.summary.Summary.{Summary}
 use Rattle.c2po_unfold.specs.declared.unfolding.Unfolding.{Unfolding}
+use Rattle.c2po_unfold.specs.declared.values.Stored.{Stored}
 use Rattle.c2po_unfold.specs.Bodies.{AreOfBody, IsOfBody, MeetsBody, MeetsBodyIn}
-use Rattle.c2po_unfold.specs.Cases.{IsMember, nth}
+use Rattle.c2po_unfold.specs.Cases.{IsMember, chosen, path_of}
 use Rattle.c2po_unfold.specs.Covering.{Mode, Says}
 use Rattle.c2po_nodes.specs.Nodes.{formula}
 use Rattle.c2po_unfold.specs.Environment.{Env}
@@ -48,23 +50,27 @@ GatheredFor m each i vs = (s : Summary) × (known_at each i ≡ Some s) × IsGat
 abbrev pub RowsLead : Unfolding → List Row → Value → Value → Type 0
 RowsLead u rows w v = (k : ℕ) (r : Row) → slice_get rows k ≡ Some r → Holds u r.member w → Holds u r.found v
 
--- what is known of bodies that were checked together is so in each of n cases: member after member from the first of
--- them on, each in all cases
-pub record IsAheadIn (u : Unfolding) (scope : Scope) (q : Quantified) (set : Head) (n : ℕ) (ahead : Ahead) :
+-- what is known of bodies that were checked together is so in each of these cases: member after member from the first
+-- of them on, each in all cases
+pub record IsAheadIn (u : Unfolding) (scope : Scope) (q : Quantified) (set : Head) (paths : List Path) (ahead : Ahead) :
     Type 0 where
-  pub holds : (m : Mode) (base env : Env) (i j : ℕ) (s v : Value) → i < n
-      → MeetsBodyIn (nth m n i) u base scope env q → HeadsIn (nth m n i) u base set s
+  pub holds : (m : Mode) (base env : Env) (i j : ℕ) (p : Path) (s v : Value) → slice_get paths i ≡ Some p
+      → MeetsBodyIn (chosen m (path_of p)) u base scope env q → HeadsIn (chosen m (path_of p)) u base set s
       → j < ahead.count → slice_get (members s) (ahead.start + j) ≡ Some v
-      → KnownFor m ahead.each (i + n * j) (resolved_body q env v)
+      → KnownFor m ahead.each (i + length paths * j) (resolved_body q env v)
 
 -- the same where the set is one of these expressions
-pub record IsOpenAhead (u : Unfolding) (scope within : Scope) (q : Quantified) (es : List Resolved) (n : ℕ)
+pub record IsOpenAhead (u : Unfolding) (scope within : Scope) (q : Quantified) (es : List Resolved) (paths : List Path)
     (ahead : Ahead) : Type 0 where
-  pub holds : (m : Mode) (base around env : Env) (i j : ℕ) (v : Value) → i < n
-      → MeetsBodyIn (nth m n i) u base scope env q → FitsIn (nth m n i) u base within around
+  pub holds : (m : Mode) (base around env : Env) (i j : ℕ) (p : Path) (v : Value) → slice_get paths i ≡ Some p
+      → MeetsBodyIn (chosen m (path_of p)) u base scope env q → FitsIn (chosen m (path_of p)) u base within around
       → AllResolved u base (names_of within) es → j < ahead.count
       → slice_get (list_of (resolved_values es around)) (ahead.start + j) ≡ Some v
-      → KnownFor m ahead.each (i + n * j) (resolved_body q env v)
+      → KnownFor m ahead.each (i + length paths * j) (resolved_body q env v)
+
+-- the stored value with a number among these represents a value
+abbrev pub HoldsFor : Unfolding → List Stored → ℕ → Value → Type 0
+HoldsFor u ss i v = (s : Stored) × (slice_get ss i ≡ Some s) × Holds u s v
 
 -- a value is that of the member with a number
 abbrev pub HasMember : Mode → Unfolding → List Member → ℕ → Value → Type 0
@@ -77,12 +83,13 @@ pub record IsListed (each : Each) (n : ℕ) (old new : List Member) : Type 0 whe
   pub listed : (i : ℕ) → i < n → (x : Member) × (slice_get new (length old + i) ≡ Some x)
       × (known_at each i ≡ Some x.summary) × (x.stored ≡ None)
 
--- members say what is known of the first t expressions in each of n cases, one expression after the other
-pub record AreListed (u : Unfolding) (scope : Scope) (n : ℕ) (es : List Resolved) (t : ℕ) (all : List Member) :
-    Type 0 where
-  pub count : length all ≡ n * t
-  pub each : (m : Mode) (base env : Env) (i j : ℕ) (e : Resolved) → i < n → j < t → slice_get es j ≡ Some e
-      → MeetsIn (nth m n i) u base scope env e → HasMember m u all (i + n * j) (resolved_value e env)
+-- members say what is known of the first t expressions in each of these cases, one expression after the other
+pub record AreListed (u : Unfolding) (scope : Scope) (paths : List Path) (es : List Resolved) (t : ℕ)
+    (all : List Member) : Type 0 where
+  pub count : length all ≡ length paths * t
+  pub each : (m : Mode) (base env : Env) (i j : ℕ) (p : Path) (e : Resolved) → slice_get paths i ≡ Some p → j < t
+      → slice_get es j ≡ Some e → MeetsIn (chosen m (path_of p)) u base scope env e
+      → HasMember m u all (i + length paths * j) (resolved_value e env)
 
 -- the same where each variable has one value
 pub record IsAhead (u : Unfolding) (scope : Scope) (q : Quantified) (set : Head) (ahead : Ahead) : Type 0 where

@@ -1,6 +1,8 @@
 -- Several values of variables at once: an expression is looked at in several cases.
 
-use Rattle.std.specs.Prelude.{ℕ, ◌≡◌, ◌+◌, ◌*◌, ◌%◌, Some, List, length, slice_get}
+use Rattle.std.specs.Prelude.{ℕ, ◌≡◌, Some, List, slice_get, take}
+use Rattle.c2po_unfold.specs.declared.path.Path.{Path}
+use Rattle.c2po_unfold.specs.declared.scope.Choice.{Choice}
 use Rattle.c2po_unfold.specs.declared.scope.Member.{Member}
 use Rattle.c2po_unfold.specs.declared.unfolding.Unfolding.{Unfolding}
 use Rattle.c2po_unfold.specs.declared.values.Stored.{Stored}
@@ -9,23 +11,39 @@ use Rattle.c2po_unfold.specs.Holding.{Holds}
 use Rattle.c2po_unfold.specs.Summaries.{IsSummary}
 use Rattle.c2po_unfold.specs.Values.{Value}
 
--- how variables are meant: each has one value, or the one that it has in the case with a number
+-- how variables are meant: each has one value, or the one that a case chooses, by a number for each level at which
+-- members differ
 pub data Case : Type 0 where
   only : Mode → Case
-  nth : Mode → (count number : ℕ) → Case
+  chosen : Mode → (path : List ℕ) → Case
 
 -- how what is known is meant
 abbrev pub mode_in : Case → Mode
 mode_in (only m) = m
-mode_in (nth m n i) = m
+mode_in (chosen m path) = m
+
+-- the numbers of a path
+abbrev pub path_of : Path → List ℕ
+path_of p = take p.count p.numbers
+
+-- a path has the numbers of another one, and this number at a level
+pub record IsReached (old new : List ℕ) (level number : ℕ) : Type 0 where
+  pub kept : (i k : ℕ) → slice_get old i ≡ Some k → slice_get new i ≡ Some k
+  pub there : slice_get new level ≡ Some number
+
+-- the path with this number among these is that one with the number at a level
+abbrev pub HasReached : List Path → Path → (level number : ℕ) → Type 0
+HasReached paths p level number =
+    (q : Path) × (slice_get paths number ≡ Some q) × IsReached (path_of p) (path_of q) level number
 
 -- what is known of a member is so of a value
 pub record IsMember (m : Mode) (u : Unfolding) (x : Member) (v : Value) : Type 0 where
   pub known : IsSummary m x.summary v
   pub holds : (s : Stored) → x.stored ≡ Some s → Holds u s v
 
--- a value is that of the member in turn, here and in each case that is all cases further on
-abbrev pub IsVaried : Case → Unfolding → List Member → Value → Type 0
-IsVaried (only m) u ms v = ⊥
-IsVaried (nth m n i) u ms v =
-    (t : ℕ) (x : Member) → slice_get ms ((i + n * t) % length ms) ≡ Some x → IsMember m u x v
+-- a value is that of the member with the number that the case has at the level of the choice
+abbrev pub IsVaried : Case → Unfolding → Choice → Value → Type 0
+IsVaried (only m) u choice v = ⊥
+IsVaried (chosen m path) u choice v =
+    (k : ℕ) × (slice_get path choice.level ≡ Some k)
+    × ((x : Member) → slice_get choice.members.now k ≡ Some x → IsMember m u x v)

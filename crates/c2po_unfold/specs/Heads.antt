@@ -27,7 +27,7 @@ IsLed c u base (led.Open scope e) v = (env : Env) × FitsIn c u base scope.now e
     × IsResolved u base (names_of scope.now) e.now × (v ≡ resolved_value e.now env)
 IsLed c u base (led.Held s i) v = Holds u s v
 IsLed c u base (led.Covered s) v = IsOfLeaf (mode_in c) s.now v
-IsLed c u base (led.Varied ms) v = IsVaried c u ms.now v
+IsLed c u base (led.Varied choice) v = IsVaried c u choice v
 
 -- an expression as it is read: a number, a Boolean, an operator or a quantifier
 abbrev pub is_operator : Shape → Bool
@@ -68,7 +68,7 @@ HeadsIn c u base (head.Leaf scope e) v =
     × (v ≡ resolved_value e.now env) × (is_operation e.now ≡ true)
 HeadsIn c u base (head.Held s) v = Holds u s v
 HeadsIn c u base (head.Covered s) v = IsOfLeaf (mode_in c) s.now v
-HeadsIn c u base (head.Varied ms) v = IsVaried c u ms.now v
+HeadsIn c u base (head.Varied choice) v = IsVaried c u choice v
 
 -- the same where each variable has one value
 abbrev pub Heads : Mode → Unfolding → Env → Head → Value → Type 0

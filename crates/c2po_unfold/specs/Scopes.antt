@@ -18,7 +18,7 @@ names_of Top = []
 names_of (Open' x e _ within _ outer) = x.now ∷ names_of outer
 names_of (Held' x s i _ outer) = x.now ∷ names_of outer
 names_of (Covered' x s _ outer) = x.now ∷ names_of outer
-names_of (Varied' x ms _ outer) = x.now ∷ names_of outer
+names_of (Varied' x choice _ outer) = x.now ∷ names_of outer
 
 -- variables within an unfolding represent an environment in a case, over the meanings of declared names
 abbrev pub FitsIn : Case → Unfolding → Env → Scope → Env → Type 0
@@ -31,8 +31,8 @@ FitsIn c u base (Held' x s i _ outer) env =
 FitsIn c u base (Covered' x s _ outer) env =
     (v : Value) × (around : Env) × IsOfLeaf (mode_in c) s.now v × FitsIn c u base outer around
     × (env ≡ bind x.now v around)
-FitsIn c u base (Varied' x ms _ outer) env =
-    (v : Value) × (around : Env) × IsVaried c u ms.now v × FitsIn c u base outer around × (env ≡ bind x.now v around)
+FitsIn c u base (Varied' x choice _ outer) env =
+    (v : Value) × (around : Env) × IsVaried c u choice v × FitsIn c u base outer around × (env ≡ bind x.now v around)
 
 -- the same, and the names of an expression within them are resolved
 pub record MeetsIn (c : Case) (u : Unfolding) (base : Env) (scope : Scope) (env : Env) (e : Resolved) : Type 0 where

@@ -48,9 +48,9 @@ impl<'a> Scope<'a> {
             } if name.bytes() == own.bytes() => Led::Covered(summary),
             Scope::Varied {
                 name: own,
-                members,
+                choice,
                 ..
-            } if name.bytes() == own.bytes() => Led::Varied(members),
+            } if name.bytes() == own.bytes() => Led::Varied(*choice),
             Scope::Open { outer, .. } => outer.variable(name),
             Scope::Held { outer, .. } => outer.variable(name),
             Scope::Covered { outer, .. } => outer.variable(name),
@@ -162,7 +162,13 @@ impl Unfolding {
     }
 
     /// The part of a stored struct's value that a field names; another value is its own part.
-    fn held_part(&self, scope: &Scope<'_>, stored: Stored, field: &Name, hint: &Hint) -> Stored
+    pub(crate) fn held_part(
+        &self,
+        scope: &Scope<'_>,
+        stored: Stored,
+        field: &Name,
+        hint: &Hint,
+    ) -> Stored
         ensures { (c : Case) (base env : Env) (v : Value) → FitsIn c self.now base scope.now env
             → IsPlace base (names_of scope.now) field.now hint.now → Holds self.now stored v
             → Holds self.now result (picked (λ y. fields_in (env y)) field.now v) }
@@ -197,7 +203,7 @@ impl Unfolding {
                 }
                 Led::Held(stored, _) => Ok(Head::Held(stored)),
                 Led::Covered(summary) => Ok(Head::Covered(summary)),
-                Led::Varied(members) => Ok(Head::Varied(members)),
+                Led::Varied(choice) => Ok(Head::Varied(choice)),
                 Led::Nowhere => Ok(Head::Nothing(scope, e)),
             },
             Resolved::Column(e, name, rows) => match scope.found(name, rows.as_slice()) {
@@ -247,7 +253,7 @@ impl Unfolding {
                 }
             }
             Head::Held(stored) => Ok(Head::Held(self.held_part(scope, stored, field, hint))),
-            Head::Varied(_) => Ok(Head::Varied(&[])),
+            Head::Varied(choice) => Ok(Head::Varied(choice.unlisted())),
             Head::Nothing(..) | Head::Set(..) | Head::Leaf(..) | Head::Covered(_) => Ok(whole),
         }
     }
@@ -313,7 +319,7 @@ impl Unfolding {
         ensures memory { IfErr result (λ why. why ≡ Memory) }
     {
         match *set {
-            Head::Varied(_) => Ok(Head::Varied(&[])),
+            Head::Varied(choice) => Ok(Head::Varied(choice.unlisted())),
             Head::Set(within, _, members) => match members.get(i) {
                 Some(expr) => self.head(levels, within, expr),
                 None => Ok(*set),

@@ -1,14 +1,18 @@
 //! Variables of quantifiers, which are members of sets that aren't unfolded yet.
 
-ghost use Rattle.std.specs.Prelude.{◌≡◌, ◌∷◌};
+ghost use Rattle.std.specs.Prelude.{◌≡◌, ◌∷◌, [], IfSome};
 ghost use Rattle.c2po_unfold.specs.declared.unfolding.Unfolding.{Unfolding};
-ghost use Rattle.c2po_unfold.specs.Cases.{Case};
+ghost use Rattle.c2po_unfold.specs.Ahead.{RowsLead};
+ghost use Rattle.c2po_unfold.specs.Cases.{Case, IsMember, IsVaried, chosen, path_of};
+ghost use Rattle.c2po_unfold.specs.Covering.{Mode};
+ghost use Rattle.c2po_unfold.specs.Holding.{Holds};
 ghost use Rattle.c2po_unfold.specs.Environment.{Env, bind};
 ghost use Rattle.c2po_unfold.specs.Heads.{HeadsIn};
 ghost use Rattle.c2po_unfold.specs.Scopes.{FitsIn, names_of};
 ghost use Rattle.c2po_unfold.specs.Values.{Value};
 
-use crate::resolved::Resolved;
+use crate::path::Path;
+use crate::resolved::{Resolved, Row};
 use crate::summary::Summary;
 use crate::values::Stored;
 use mltl_base::Name;
@@ -38,12 +42,20 @@ pub enum Scope<'a> {
         summary: &'a Summary,
         outer: &'a Scope<'a>,
     },
-    /// The variable differs from case to case: these in turn, or any value where none is listed.
+    /// The variable differs from case to case.
     Varied {
         name: &'a Name,
-        members: &'a [Member],
+        choice: Choice<'a>,
         outer: &'a Scope<'a>,
     },
+}
+
+/// What differs from case to case: one of these members, or any value where that isn't listed.
+#[derive(Clone, Copy)]
+pub struct Choice<'a> {
+    pub members: &'a [Member],
+    /// Which number of a case's path says the member.
+    pub level: usize,
 }
 
 /// A member of a set in a case: what is known of it, and the stored value that it is, if it is one.
@@ -53,6 +65,46 @@ pub struct Member {
     pub stored: Option<Stored>,
     /// Which member of the set it is.
     pub index: usize,
+}
+
+impl<'a> Choice<'a> {
+    /// Any value, at the same level.
+    pub(crate) fn unlisted(self) -> Choice<'a>
+        ensures members { result.members.now ≡ [] }
+        ensures level { result.level ≡ self.entry.level }
+    {
+        Choice {
+            members: &[],
+            level: self.level,
+        }
+    }
+
+    /// The member that a case chooses, if it is listed.
+    #[inline(always)]
+    pub(crate) fn member(self, path: &Path) -> Option<&'a Member>
+        ensures { (m : Mode) (u : Unfolding) (v : Value)
+            → IsVaried (chosen m (path_of path.now)) u self.entry v
+            → IfSome result (λ x. IsMember m u x.now v) }
+    {
+        self.members.get(path.at(self.level)?)
+    }
+
+    /// What a column has for the member that a case chooses, if that is stored.
+    #[inline(always)]
+    pub(crate) fn found(self, path: &Path, rows: &[Row]) -> Option<Stored>
+        ensures { (m : Mode) (u : Unfolding) (w v : Value)
+            → IsVaried (chosen m (path_of path.now)) u self.entry w → RowsLead u rows.now w v
+            → IfSome result (λ s. Holds u s v) }
+    {
+        let member = self.member(path)?;
+        let stored = member.stored?;
+        let row = rows.get(member.index)?;
+        if row.member.is(stored) {
+            Some(row.found)
+        } else {
+            None
+        }
+    }
 }
 
 /// Where an expression is: the variables around it, and how deep it may still be nested.
@@ -72,8 +124,8 @@ pub enum Led<'a> {
     Held(Stored, usize),
     /// An integer or a formula of which this is known.
     Covered(&'a Summary),
-    /// A value that differs from case to case: these in turn, or any where none is listed.
-    Varied(&'a [Member]),
+    /// A value that differs from case to case.
+    Varied(Choice<'a>),
 }
 
 /// A value as far as it is looked at: what names and picked fields lead to.
@@ -90,8 +142,8 @@ pub enum Head<'a> {
     Held(Stored),
     /// An integer or a formula of which this is known.
     Covered(&'a Summary),
-    /// A value that differs from case to case: these in turn, or any where none is listed.
-    Varied(&'a [Member]),
+    /// A value that differs from case to case.
+    Varied(Choice<'a>),
 }
 
 impl<'a> Scope<'a> {
@@ -130,9 +182,9 @@ impl<'a> Scope<'a> {
                 summary,
                 outer,
             },
-            Head::Varied(members) => Scope::Varied {
+            Head::Varied(choice) => Scope::Varied {
                 name,
-                members,
+                choice,
                 outer,
             },
         }

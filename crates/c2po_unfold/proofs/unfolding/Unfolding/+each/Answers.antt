@@ -1,35 +1,38 @@
-use Rattle.std.proofs.Common.{rules, FitsSigned, w64, ℕ, ◌≡◌, ◌+◌, ◌-◌, ◌*◌, ◌<◌, ◌≤◌, List, Bor, Some, IfOk, IfSome, refl, sym, subst, ap, ◌∙◌, length, get_or, slice_get, take, false, arith}
+use Rattle.std.proofs.Common.{rules, FitsSigned, w64, ℕ, ◌≡◌, ◌+◌, ◌-◌, ◌*◌, ◌<◌, ◌≤◌, List, Bor, Some, IfOk, IfSome, refl, sym, subst, ap, ◌∙◌, length, get_or, slice_get, take, false, arith, [], ◌∷◌, ◌++◌}
 use Rattle.std.proofs.lemmas.Int.{to_z-of_z}
 use Rattle.mltl_base.specs.declared.operators.LogicOp.TheVariants.{And}
 use Rattle.mltl_base.specs.Atoms.{constant}
 use Rattle.c2po_nodes.specs.Nodes.{number}
-use Rattle.c2po_unfold.specs.Ahead.{GatheredFor, HasMember, IsAheadIn, KnownFor}
-use Rattle.c2po_unfold.specs.Bodies.{MeetsBodyIn}
-use Rattle.c2po_unfold.specs.Cases.{nth}
+use Rattle.c2po_unfold.specs.Ahead.{GatheredFor, HasMember, HoldsFor, IsAheadIn, IsListed, KnownFor, IsGathered, known_at}
+use Rattle.c2po_unfold.specs.Cases.{chosen, path_of}
 use Rattle.c2po_unfold.specs.Environment.{bind, value_in}
 use Rattle.c2po_unfold.specs.Facts.{Tells}
 use Rattle.c2po_unfold.specs.Heads.{HeadsIn, IsLed}
 use Rattle.c2po_unfold.specs.Resolving.{IsResolved, resolved_bodies, resolved_body, resolved_value}
 use Rattle.c2po_unfold.specs.Scopes.{names_of}
 use Rattle.c2po_unfold.specs.Summaries.{IsSummary}
-use Rattle.c2po_unfold.specs.Values.{connected_all, counted, integer, members}
-use Rattle.c2po_unfold.proofs.Cases.{IsFurther, binary_meets, binary_same, body_meets, first_case, fits_further, nth_further, varied_here, part_meets, unary_meets, unary_same}
+use Rattle.c2po_unfold.specs.Values.{connected_all, counted, integer, members, truth_value}
+use Rattle.c2po_unfold.proofs.Cases.{binary_meets, binary_same, body_meets, first_case, body_further, varied_here, part_meets, unary_meets, unary_same}
 use Rattle.c2po_unfold.proofs.Columns.{column_bound, column_holds}
-use Rattle.c2po_unfold.proofs.Loops.{bodies_by, bodies_count, meets_within}
+use Rattle.c2po_unfold.proofs.Loops.{bodies_by, bodies_count, body_at, joined_one, meets_within, member_at, none_left}
 use Rattle.std.proofs.lemmas.List.{take_all}
-use Rattle.c2po_unfold.proofs.Joining.{over_all, over_more, over_start, gathered_next, gathered_start, joined_all, joined_more, joined_start}
+use Rattle.c2po_unfold.proofs.Joining.{gathered_next, gathered_start, joined_all, joined_more, joined_start}
 use Rattle.c2po_unfold.proofs.Parts.{member_held}
-use Rattle.c2po_unfold.proofs.Several.{are_listed_more, no_stored, turn_within}
+use Rattle.c2po_unfold.proofs.Several.{are_listed_more, no_stored, known_more, lent_at}
 use Rattle.c2po_unfold.proofs.Members.{found_at, resolved_at, value_at}
 use Rattle.c2po_unfold.specs.declared.resolved.Resolved.{Resolved, Truth}
-use Rattle.std.proofs.lemmas.Option.{same_Some, slice_get-get_or}
+use Rattle.std.proofs.lemmas.Option.{same_Some, slice_get-get_or, slice_get_within}
 use Rattle.c2po_unfold.specs.declared.known.Ahead.{Ahead}
 use Rattle.c2po_unfold.specs.declared.values.Stored.{Stored}
+use Rattle.c2po_unfold.specs.declared.operators.BinaryOp.TheVariants.{Logic}
+use Rattle.c2po_unfold.specs.declared.summary.Summary.{Summary}
+use Rattle.c2po_unfold.specs.Operators.{binary_value}
+use Rattle.c2po_unfold.proofs.Lanewise.{IsAt, OfLanes, all_bodies, gathered_lanes_more, joined_lanes_more, lane_count, lanes_known}
 use Rattle.c2po_unfold.proofs.unfolding.Unfolding.+each.Goals as goal
-use Rattle.c2po_unfold.proofs.unfolding.Unfolding.+each.Goals.{each_gathered-then-i-ahead+in_ok-ahead, each_gathered-else-i-ahead, each_joined-then-i-ahead+in_ok-ahead-2, each_joined-else-i-ahead}
+use Rattle.c2po_unfold.proofs.unfolding.Unfolding.+each.Goals.{each_gathered-then-i-ahead+in_ok-ahead, each_gathered-else-i-ahead, each_joined-then-i-ahead+in_ok-ahead-2, each_joined-else-i-ahead, lane-in-Some, lane-in-None+in_ok-looked-in-None+in_ok-found-in-None}
 
 pub each_of-returns-in_ok-token-in-Number : goal.each_of-returns-in_ok-token-in-Number
-each_of-returns-in_ok-token-in-Number t c = λ m base env i inside h.
+each_of-returns-in_ok-token-in-Number t c = λ m base env i p inside h.
     let n = c.in-Number.n in
     let fits : FitsSigned w64 n = search rules in
     let told : Tells c.constant.result (Some (number (constant n))) =
@@ -41,7 +44,7 @@ each_of-returns-in_ok-token-in-Number t c = λ m base env i inside h.
     )
 
 pub each_of-returns-in_ok-token-in-Truth : goal.each_of-returns-in_ok-token-in-Truth
-each_of-returns-in_ok-token-in-Truth t c = λ m base env i inside h. (
+each_of-returns-in_ok-token-in-Truth t c = λ m base env i p inside h. (
   c.in_ok-token-in-Truth.field-0,
   refl,
   subst (λ d. IsSummary m c.in_ok-token-in-Truth.field-0 (resolved_value d env)) (sym c.in-Truth.is)
@@ -49,73 +52,91 @@ each_of-returns-in_ok-token-in-Truth t c = λ m base env i inside h. (
 )
 
 pub each_of-returns-in_ok-a-in-Unary : goal.each_of-returns-in_ok-a-in-Unary
-each_of-returns-in_ok-a-in-Unary t c = λ m base env i inside h.
+each_of-returns-in_ok-a-in-Unary t c = λ m base env i p inside h.
     let d = c.deref.result.now in
     subst (λ w. IfOk c.over_one.result (λ r. KnownFor m r i w))
     (unary_same env c.args.e.now _ d c.in-Unary.op _ c.in-Unary.is c.deref.ensures)
-    (c.over_one.ensures m i (resolved_value d env) inside
-    (c.in_ok-a-in-Unary.ensures m base env i inside
-    (unary_meets (nth m c.args.cases.count i) c.args.self.now base c.args.at.scope.now env c.args.e.now _ d c.in-Unary.op _ h c.in-Unary.is c.deref.ensures)))
+    (c.over_one.ensures m i (resolved_value d env) (subst (λ n. i < n) (sym c.len.ensures) (slice_get_within c.args.cases.paths.now i p inside))
+    (c.in_ok-a-in-Unary.ensures m base env i p inside
+    (unary_meets (chosen m (path_of p)) c.args.self.now base c.args.at.scope.now env c.args.e.now _ d c.in-Unary.op _ h c.in-Unary.is c.deref.ensures)))
 
 pub each_of-returns-in_ok-b-in-Binary : goal.each_of-returns-in_ok-b-in-Binary
-each_of-returns-in_ok-b-in-Binary t c = λ m base env i inside h.
+each_of-returns-in_ok-b-in-Binary t c = λ m base env i p inside h.
     let d = c.deref-in-Binary.result.now in
     let f = c.deref-in-Binary-2.result.now in
-    let both = binary_meets (nth m c.args.cases.count i) c.args.self.now base c.args.at.scope.now env c.args.e.now _ _ d f c.in-Binary.op _ _ h c.in-Binary.is
+    let both = binary_meets (chosen m (path_of p)) c.args.self.now base c.args.at.scope.now env c.args.e.now _ _ d f c.in-Binary.op _ _ h c.in-Binary.is
     c.deref-in-Binary.ensures c.deref-in-Binary-2.ensures in
     subst (λ w. IfOk c.over_two.result (λ r. KnownFor m r i w))
     (binary_same env c.args.e.now _ _ d f c.in-Binary.op _ _ c.in-Binary.is c.deref-in-Binary.ensures c.deref-in-Binary-2.ensures)
-    (c.over_two.ensures m i (resolved_value d env) (resolved_value f env) inside
-    (c.in_ok-a-in-Binary.ensures m base env i inside both.0)
-    (c.in_ok-b-in-Binary.ensures m base env i inside both.1))
+    (c.over_two.ensures m i (resolved_value d env) (resolved_value f env) (subst (λ n. i < n) (sym c.len-in-Binary.ensures) (slice_get_within c.args.cases.paths.now i p inside))
+    (c.in_ok-a-in-Binary.ensures m base env i p inside both.0)
+    (c.in_ok-b-in-Binary.ensures m base env i p inside both.1))
 
 pub each_of-returns-in-Joined : goal.each_of-returns-in-Joined
-each_of-returns-in-Joined t c = λ m base env i inside h.
+each_of-returns-in-Joined t c = λ m base env i p inside h.
     let u = c.args.self.now in
     let scope = c.args.at.scope.now in
-    let k = nth m c.args.cases.count i in
+    let k = chosen m (path_of p) in
     let parts = subst (IsResolved u base (names_of scope)) c.in-Joined.is h.resolved in
     subst (λ w. IfOk c.each_joined.result (λ r. KnownFor m r i w))
     (ap (connected_all c.in-Joined.op) (bodies_by c.in-Joined.name env _ _ _ _ c.deref-in-Joined.ensures c.deref-in-Joined-2.ensures) ∙ sym (ap (λ r. resolved_value r env) c.in-Joined.is))
-    (c.each_joined.ensures m base env i inside
+    (c.each_joined.ensures m base env i p inside
     (part_meets k u base scope env c.args.e.now _ h (subst (IsResolved u base (names_of scope)) (sym c.deref-in-Joined.ensures) parts.0))
     (body_meets k u base scope env _ _ c.deref-in-Joined-2.ensures h.fits parts.1))
 
 pub each_of-returns-in-Column : goal.each_of-returns-in-Column
-each_of-returns-in-Column t c = λ m base env i inside h.
+each_of-returns-in-Column t c = λ m base env i p inside h.
     let u = c.args.self.now in
-    let k = nth m c.args.cases.count i in
-    c.each_column.ensures m base env i inside h
+    let k = chosen m (path_of p) in
+    c.each_column.ensures m base env i p inside h
     (column_bound k u base c.args.at.scope.now env c.args.e.now _ _ c.in-Column.name c.in-Column.rows h c.in-Column.is)
     (λ j r at held. column_holds k u base c.args.at.scope.now env c.args.e.now _ _ c.in-Column.name c.in-Column.rows c.as_slice.result.now
     r.found h c.in-Column.is c.as_slice.ensures.value (r, j, at, held, refl))
 
 pub each_column-returns-in-Varied : goal.each_column-returns-in-Varied
-each_column-returns-in-Varied t c = λ m base env i inside h bound lead.
-    let k = nth m c.args.cases.count i in
-    c.each_row.ensures m i (value_in (env c.args.name.now)) (resolved_value c.args.e.now env) inside
+each_column-returns-in-Varied t c = λ m base env i p inside h bound lead.
+    let k = chosen m (path_of p) in
+    c.each_row.ensures m i p (value_in (env c.args.name.now)) (resolved_value c.args.e.now env) inside
     (subst (λ l. IsLed k c.args.self.now base l (value_in (env c.args.name.now))) c.in-Varied.is (c.variable.ensures k c.args.self.now base env h.fits bound)) lead
 
+pub each_column-returns-in_default : goal.each_column-returns-in_default
+each_column-returns-in_default t c = λ m base env i p inside h bound lead. c.each_head.ensures m base env i p inside h
+
+pub each_head-returns-in-Varied-2 : goal.each_head-returns-in-Varied-2
+each_head-returns-in-Varied-2 t c = λ m base env i p inside h.
+    let k = chosen m (path_of p) in
+    let v = resolved_value c.args.e.now env in
+    c.each_member.ensures m i p v inside
+    (subst (λ d. HeadsIn k c.args.self.now base d v) c.in-Varied.is (c.in_ok-stored.ensures.head k base env h))
+
+pub each_head-returns-in-Leaf : goal.each_head-returns-in-Leaf
+each_head-returns-in-Leaf t c = λ m base env i p inside h.
+    let k = chosen m (path_of p) in
+    let v = resolved_value c.args.e.now env in
+    let g = subst (λ d. HeadsIn k c.args.self.now base d v) c.in-Leaf.is (c.in_ok-stored.ensures.head k base env h) in
+    subst (λ w. IfOk c.each.result (λ r. KnownFor m r i w)) (sym g.3)
+    (c.each.ensures m base g.0 i p inside (record { fits = g.1; resolved = g.2 }))
+
 pub each_head-returns-in-Held : goal.each_head-returns-in-Held
-each_head-returns-in-Held t c = λ m base env i inside h. (
+each_head-returns-in-Held t c = λ m base env i p inside h. (
   c.held.result,
   refl,
   c.held.ensures.holds m (resolved_value c.args.e.now env)
-      (subst (λ d. HeadsIn (nth m c.args.cases.count i) c.args.self.now base d (resolved_value c.args.e.now env)) c.in-Held.is
-      (c.in_ok-stored.ensures.head (nth m c.args.cases.count i) base env h)),
+      (subst (λ d. HeadsIn (chosen m (path_of p)) c.args.self.now base d (resolved_value c.args.e.now env)) c.in-Held.is
+      (c.in_ok-stored.ensures.head (chosen m (path_of p)) base env h)),
 )
 
 pub one_body-returns : goal.one_body-returns
 one_body-returns t c = record {
   ahead = record {
-    holds = λ m base env i j s v inside h heads one at.
-        let k = nth m c.args.cases.count i in
+    holds = λ m base env i j p s v inside h heads one at.
+        let k = chosen m (path_of p) in
         let first : c.args.i + j ≡ c.args.i = omega (arith, one) in
-        let place : i ≡ i + c.args.cases.count * j = first_case i c.args.cases.count j one in
+        let place : i ≡ i + (length c.args.cases.paths.now) * j = first_case i (length c.args.cases.paths.now) j one in
         let head = c.in_ok-head.ensures.head k base s v heads (subst (λ p. slice_get (members s) p ≡ Some v) first at) in
         let fits = c.bound.ensures.fits k c.args.self.now base env v h.fits head in
         subst (λ p. KnownFor m c.in_ok-each.each p (resolved_body c.args.bodies env v)) place
-        (c.in_ok-each.ensures m base (bind c.args.bodies.name.now v env) i inside
+        (c.in_ok-each.ensures m base (bind c.args.bodies.name.now v env) i p inside
         (meets_within k c.args.self.now base c.args.at.scope.now c.bound.result env c.args.bodies v c.bound.ensures.names fits h.resolved));
   };
   start = refl;
@@ -124,24 +145,24 @@ one_body-returns t c = record {
 
 pub each_joined-loop-i-init : goal.each_joined-loop-i-init
 each_joined-loop-i-init t c =
-    joined_start c.args.self.now c.args.at.scope.now c.in_ok-set.set c.args.bodies c.args.op c.args.cases.count c.in_ok-all.all c.in_ok-ahead.ahead
+    joined_start c.args.self.now c.args.at.scope.now c.in_ok-set.set c.args.bodies c.args.op c.args.cases.paths.now c.in_ok-all.all c.in_ok-ahead.ahead
     c.in_ok-ahead.ensures.ahead c.in_ok-ahead.ensures.start c.in_ok-ahead.ensures.some
     (λ d base s h. omega (
       arith,
       c.if-count-eq0.false,
       subst (λ o. IfSome o (λ (k : ℕ). k ≡ length (members s))) c.in_ok-count.ensures.ok_part (c.shared_count.ensures d base s h),
     ))
-    (λ m j v inside h. c.in_ok-all.ensures m c.args.op j v inside h)
+    (λ m j v inside h. c.in_ok-all.ensures m c.args.op j v (subst (λ n. j < n) (sym c.len-n.ensures) inside) h)
 
 pub each_joined-loop-i-preserved : goal.each_joined-loop-i-preserved
 each_joined-loop-i-preserved t c =
     let u = c.args.self.now in
     let scope = c.args.at.scope.now in
     let set = c.in_ok-set.set in
-    let n = c.args.cases.count in
+    let n = length c.args.cases.paths.now in
     let i = c.loop-i.i in
     let ahead = c.if-i-ahead.ahead in
-    let Is : Ahead → Type 0 = λ a. IsAheadIn u scope c.args.bodies set n a × ((a.start ≤ i) × (i < a.start + a.count)) in
+    let Is : Ahead → Type 0 = λ a. IsAheadIn u scope c.args.bodies set c.args.cases.paths.now a × ((a.start ≤ i) × (i < a.start + a.count)) in
     let now : Is ahead = elim c.if-i-ahead.branch [
       | each_joined-then-i-ahead+in_ok-ahead-2 w ↦ subst Is (sym w.ahead-is) (
         w.in_ok-ahead-2.ensures.ahead,
@@ -152,20 +173,21 @@ each_joined-loop-i-preserved t c =
         (omega (arith, c.loop-i.invariant.begun), omega (arith, c.loop-i.invariant.begun, w.if-i-ahead.false)),
       )
     ] in
-    let from : c.in_ok-from.from ≡ n * (i - ahead.start) = search rules in
-    joined_more u scope set c.args.bodies c.args.op n i c.loop-i.all c.in_ok-all-2.all c.loop-i.ahead ahead
+    let from : c.in_ok-from.from ≡ n * (i - ahead.start) =
+    subst (λ k. c.in_ok-from.from ≡ k * (i - ahead.start)) c.len-n.ensures (search rules) in
+    joined_more u scope set c.args.bodies c.args.op c.args.cases.paths.now i c.loop-i.all c.in_ok-all-2.all c.loop-i.ahead ahead
     c.loop-i.invariant c.loop-i.auto.i now.0 now.1.0 now.1.1
     (λ d base s h. omega (
       arith,
       c.loop-i-test.true,
       subst (λ o. IfSome o (λ (k : ℕ). k ≡ length (members s))) c.in_ok-count.ensures.ok_part (c.shared_count.ensures d base s h),
     ))
-    (λ m j v w inside h k. c.in_ok-all-2.ensures m j v w inside h (subst (λ p. KnownFor m ahead.each (j + p) w) (sym from) k))
+    (λ m j v w inside h k. c.in_ok-all-2.ensures m j v w (subst (λ k. j < k) (sym c.len-n.ensures) inside) h (subst (λ p. KnownFor m ahead.each (j + p) w) (sym from) k))
 
 pub each_joined-returns : goal.each_joined-returns
-each_joined-returns t c = λ m base env i inside set body.
-    let k = nth m c.args.cases.count i in
-    joined_all c.args.self.now c.args.at.scope.now c.in_ok-set.set c.args.bodies c.args.op c.args.cases.count c.loop-i.i c.loop-i.all c.loop-i.ahead
+each_joined-returns t c = λ m base env i p inside set body.
+    let k = chosen m (path_of p) in
+    joined_all c.args.self.now c.args.at.scope.now c.in_ok-set.set c.args.bodies c.args.op c.args.cases.paths.now c.loop-i.i c.loop-i.all c.loop-i.ahead
     c.loop-i.invariant
     (λ d base s h. omega (
       arith,
@@ -173,46 +195,23 @@ each_joined-returns t c = λ m base env i inside set body.
       c.loop-i.auto.i-end,
       subst (λ o. IfSome o (λ (k : ℕ). k ≡ length (members s))) c.in_ok-count.ensures.ok_part (c.shared_count.ensures d base s h),
     ))
-    m base env i (resolved_value c.args.bodies.set.now env) inside body (c.in_ok-set.ensures.head k base env set)
-
-pub held_bodies-returns-clause-ahead : goal.held_bodies-returns-clause-ahead
-held_bodies-returns-clause-ahead t c = record {
-  holds = λ m base env i j s v inside h heads within at.
-      let u = c.args.self.now in
-      let scope = c.args.at.scope.now in
-      let n = c.args.cases.count in
-      let group = c.in_ok-members.members.now in
-      let turns = c.in_ok-turns.turns.items in
-      let all = c.held_members.result.now in
-      let stored = get_or group j no_stored in
-      let here : slice_get group j ≡ Some stored = slice_get-get_or group j no_stored within in
-      let grouped = subst (λ o. IfSome o (λ (some : Bor (List Stored)). (j : ℕ) (s : Stored) → slice_get some.now j ≡ Some s → slice_get all (c.args.i + j) ≡ Some s))
-      c.in_ok-members.ensures.ok_part c.group.ensures in
-      let holds = member_held s u all (c.args.i + j) stored v (c.held_members.ensures s heads) (grouped j stored here) at in
-      let turn = c.in_ok-turns.ensures.members m i j stored v inside here holds in
-      let count : length c.as_slice.result.now ≡ n * length group = ap length c.as_slice.ensures.value ∙ c.in_ok-turns.ensures.length in
-      let last : i + n * j < length c.as_slice.result.now = subst (λ k. i + n * j < k) (sym count) (turn_within i n j (length group) inside within) in
-      let further = subst (λ k. IsFurther (nth m n i) (nth m k (i + n * j)) u) (sym count) (nth_further m n i (length group) j u) in
-      let fits = fits_further (nth m n i) (nth m (length c.as_slice.result.now) (i + n * j)) base u scope env further h.fits in
-      c.in_ok-each.ensures m base env (i + n * j) v last (record { fits = fits; resolved = h.resolved })
-      (subst (λ ms. HasMember m u ms (i + n * j) v) (sym c.as_slice.ensures.value) turn);
-}
+    m base env i p (resolved_value c.args.bodies.set.now env) inside body (c.in_ok-set.ensures.head k base env set)
 
 pub each_of-returns-in-Counted : goal.each_of-returns-in-Counted
-each_of-returns-in-Counted t c = λ m base env i inside h.
+each_of-returns-in-Counted t c = λ m base env i p inside h.
     let u = c.args.self.now in
     let scope = c.args.at.scope.now in
-    let k = nth m c.args.cases.count i in
+    let k = chosen m (path_of p) in
     let parts = subst (IsResolved u base (names_of scope)) c.in-Counted.is h.resolved in
     subst (λ w. IfOk c.each_counted.result (λ r. KnownFor m r i w))
     (ap (counted c.in-Counted.op c.in-Counted.number) (bodies_by c.in-Counted.name env _ _ _ _ c.deref-in-Counted.ensures c.deref-in-Counted-2.ensures) ∙ sym (ap (λ r. resolved_value r env) c.in-Counted.is))
-    (c.each_counted.ensures m base env i inside
+    (c.each_counted.ensures m base env i p inside
     (part_meets k u base scope env c.args.e.now _ h (subst (IsResolved u base (names_of scope)) (sym c.deref-in-Counted.ensures) parts.0))
     (body_meets k u base scope env _ _ c.deref-in-Counted-2.ensures h.fits parts.1))
 
 pub each_gathered-loop-i-init : goal.each_gathered-loop-i-init
 each_gathered-loop-i-init t c =
-    gathered_start c.args.self.now c.args.at.scope.now c.args.set.now c.args.bodies c.args.cases.count c.none.result c.none-ahead.result
+    gathered_start c.args.self.now c.args.at.scope.now c.args.set.now c.args.bodies c.args.cases.paths.now c.none.result c.none-ahead.result
     c.none-ahead.ensures.count c.none-ahead.ensures.start
     (λ m. record { weight = c.none.ensures.weight; fact = (c.none.ensures.joined m And).fact })
 
@@ -221,10 +220,10 @@ each_gathered-loop-i-preserved t c =
     let u = c.args.self.now in
     let scope = c.args.at.scope.now in
     let set = c.args.set.now in
-    let n = c.args.cases.count in
+    let n = length c.args.cases.paths.now in
     let i = c.loop-i.i in
     let ahead = c.if-i-ahead.ahead in
-    let Is : Ahead → Type 0 = λ a. IsAheadIn u scope c.args.bodies set n a × ((a.start ≤ i) × (i < a.start + a.count)) in
+    let Is : Ahead → Type 0 = λ a. IsAheadIn u scope c.args.bodies set c.args.cases.paths.now a × ((a.start ≤ i) × (i < a.start + a.count)) in
     let now : Is ahead = elim c.if-i-ahead.branch [
       | each_gathered-then-i-ahead+in_ok-ahead w ↦ subst Is (sym w.ahead-is) (
         w.in_ok-ahead.ensures.ahead,
@@ -235,48 +234,70 @@ each_gathered-loop-i-preserved t c =
         (omega (arith, c.loop-i.invariant.begun), omega (arith, c.loop-i.invariant.begun, w.if-i-ahead.false)),
       )
     ] in
-    let from : c.in_ok-from.from ≡ n * (i - ahead.start) = search rules in
-    gathered_next u scope set c.args.bodies n i c.loop-i.all c.in_ok-all.all c.loop-i.ahead ahead
+    let from : c.in_ok-from.from ≡ n * (i - ahead.start) =
+    subst (λ k. c.in_ok-from.from ≡ k * (i - ahead.start)) c.len-n.ensures (search rules) in
+    gathered_next u scope set c.args.bodies c.args.cases.paths.now i c.loop-i.all c.in_ok-all.all c.loop-i.ahead ahead
     c.loop-i.invariant now.0 now.1.0 now.1.1
-    (λ m j vs w inside h k. c.in_ok-all.ensures m j vs w inside h (subst (λ p. KnownFor m ahead.each (j + p) w) (sym from) k))
+    (λ m j vs w inside h k. c.in_ok-all.ensures m j vs w (subst (λ k. j < k) (sym c.len-n.ensures) inside) h (subst (λ p. KnownFor m ahead.each (j + p) w) (sym from) k))
 
 pub each_gathered-returns : goal.each_gathered-returns
-each_gathered-returns t c = λ m base env i s inside body heads count.
+each_gathered-returns t c = λ m base env i p s inside body heads count.
     let bodies = resolved_bodies c.args.bodies env s in
     let whole : take c.loop-i.i bodies ≡ bodies =
     take_all c.loop-i.i bodies (omega (arith, bodies_count c.args.bodies env s, count, c.loop-i-test.false)) in
     subst (λ vs. GatheredFor m c.loop-i.all i vs) whole
-    (c.loop-i.invariant.holds m base env i s inside (omega (arith, count, c.loop-i.auto.i-end)) body heads)
+    (c.loop-i.invariant.holds m base env i p s inside (omega (arith, count, c.loop-i.auto.i-end)) body heads)
 
 pub each_counted-returns : goal.each_counted-returns
-each_counted-returns t c = λ m base env i inside set body.
-    let k = nth m c.args.cases.count i in
+each_counted-returns t c = λ m base env i p inside set body.
+    let k = chosen m (path_of p) in
     let s = resolved_value c.args.bodies.set.now env in
     let heads = c.in_ok-set.ensures.head k base env set in
     let all = resolved_bodies c.args.bodies env s in
     let count : c.in_ok-members.members ≡ length (members s) =
     subst (λ o. IfSome o (λ (n : ℕ). n ≡ length (members s))) c.in_ok-members.ensures.ok_part (c.shared_count.ensures k base s heads) in
     let bodies : c.in_ok-members.members ≡ length all = omega (arith, count, bodies_count c.args.bodies env s) in
-    c.counted.ensures m i all inside bodies (omega (arith, bodies, c.if-members-eq0.false))
-    (c.in_ok-all.ensures m base env i s inside body heads count)
+    c.counted.ensures m i all (subst (λ n. i < n) (sym c.len.ensures) (slice_get_within c.args.cases.paths.now i p inside)) bodies (omega (arith, bodies, c.if-members-eq0.false))
+    (c.in_ok-all.ensures m base env i p s inside body heads count)
 
 pub each_body-returns : goal.each_body-returns
-each_body-returns t c = λ m base env i v inside h k.
-    let varied = varied_here m (length c.args.turns.now) i c.args.self.now c.args.turns.now k.0 v refl inside k.1 k.2 in
-    c.each.ensures m base (bind c.args.bodies.name.now v env) i inside (record { fits = (v, env, varied, h.fits, refl); resolved = h.resolved })
+each_body-returns t c = λ m base env i p v inside there h k.
+    let varied = varied_here m (path_of p) c.args.members.now c.args.level i c.args.self.now k.0 v there k.1 k.2 in
+    c.each.ensures m base (bind c.args.bodies.name.now v env) i p inside (record { fits = (v, env, varied, h.fits, refl); resolved = h.resolved })
 
 pub listed-loop-e-preserved : goal.listed-loop-e-preserved
 listed-loop-e-preserved t c =
-    are_listed_more c.args.self.now c.args.at.scope.now c.args.cases.count c.args.es.now c.loop-e.e-index c.e-item.result c.loop-e.all.items c.list.new.all.items
+    are_listed_more c.args.self.now c.args.at.scope.now c.args.cases.paths.now c.args.es.now c.loop-e.e-index c.e-item.result c.loop-e.all.items c.list.new.all.items
     c.in_ok-each.each c.loop-e.invariant (found_at c.args.es.now c.args.es.now c.loop-e.e-index c.e-item.result refl c.loop-e-test.true c.e-item.is)
-    c.in_ok-list.ensures (λ m base env i inside h. c.in_ok-each.ensures m base env i inside h)
+    (subst (λ n. IsListed c.in_ok-each.each n c.loop-e.all.items c.list.new.all.items) c.len.ensures c.in_ok-list.ensures)
+    (λ m base env i p inside h. c.in_ok-each.ensures m base env i p inside h)
+
+pub held_bodies-returns-clause-ahead : goal.held_bodies-returns-clause-ahead
+held_bodies-returns-clause-ahead t c = record {
+  holds = λ m base env i j p s v inside h heads within at.
+      let u = c.args.self.now in
+      let n = length c.args.cases.paths.now in
+      let group = c.in_ok-members.members.now in
+      let all = c.held_members.result.now in
+      let stored = get_or group j no_stored in
+      let here : slice_get group j ≡ Some stored = slice_get-get_or group j no_stored within in
+      let grouped = subst (λ o. IfSome o (λ (some : Bor (List Stored)). (j : ℕ) (s : Stored) → slice_get some.now j ≡ Some s → slice_get all (c.args.i + j) ≡ Some s))
+      c.in_ok-members.ensures.ok_part c.group.ensures in
+      let holds = member_held s u all (c.args.i + j) stored v (c.held_members.ensures s heads) (grouped j stored here) at in
+      let turn = subst (λ k. HasMember m u c.in_ok-turns.turns.items (i + k * j) v) c.len-n.ensures
+      (c.in_ok-turns.ensures.members m i j stored v (subst (λ k. i < k) (sym c.len-n.ensures) (slice_get_within c.args.cases.paths.now i p inside)) here holds) in
+      let reached = c.in_ok-paths.ensures.paths i j p inside within in
+      let there = subst (λ ps. slice_get ps (i + n * j) ≡ Some reached.0) (sym (c.along-within.ensures ∙ c.as_slice.ensures.value)) reached.1 in
+      c.in_ok-each.ensures m base env (i + n * j) reached.0 v there reached.2.there
+      (body_further m (path_of p) (path_of reached.0) c.level-level.result (i + n * j) u base c.args.at.scope.now env c.args.bodies reached.2 h)
+      (subst (λ ms. HasMember m u ms (i + n * j) v) (sym c.as_slice-2.ensures.value) turn);
+}
 
 pub open_bodies-returns-clause-ahead : goal.open_bodies-returns-clause-ahead
 open_bodies-returns-clause-ahead t c = record {
-  holds = λ m base around env i j v inside h fits all within at.
+  holds = λ m base around env i j p v inside h fits all within at.
       let u = c.args.self.now in
-      let scope = c.args.at.scope.now in
-      let n = c.args.cases.count in
+      let n = length c.args.cases.paths.now in
       let es = c.args.set.now in
       let group = c.in_ok-members.members.now in
       let e = get_or group j (Truth false) in
@@ -286,49 +307,173 @@ open_bodies-returns-clause-ahead t c = record {
       let found = grouped j e here in
       let same : resolved_value e around ≡ v = same_Some (resolved_value e around) v (sym (value_at es around (c.args.i + j) e found) ∙ at) in
       let names = resolved_at es u base (names_of c.args.within.now) (c.args.i + j) e all found in
-      let turn = c.in_ok-turns.ensures.each m base around i j e inside within here (record { fits = fits; resolved = names }) in
-      let count : length c.as_slice.result.now ≡ n * length group = ap length c.as_slice.ensures.value ∙ c.in_ok-turns.ensures.count in
-      let last : i + n * j < length c.as_slice.result.now = subst (λ k. i + n * j < k) (sym count) (turn_within i n j (length group) inside within) in
-      let further = subst (λ k. IsFurther (nth m n i) (nth m k (i + n * j)) u) (sym count) (nth_further m n i (length group) j u) in
-      let outer = fits_further (nth m n i) (nth m (length c.as_slice.result.now) (i + n * j)) base u scope env further h.fits in
-      c.in_ok-each.ensures m base env (i + n * j) v last (record { fits = outer; resolved = h.resolved })
-      (subst (λ ms. HasMember m u ms (i + n * j) v) (sym c.as_slice.ensures.value) (subst (λ w. HasMember m u c.in_ok-turns.turns.items (i + n * j) w) same turn));
+      let turn = c.in_ok-turns.ensures.each m base around i j p e inside within here (record { fits = fits; resolved = names }) in
+      let reached = c.in_ok-paths.ensures.paths i j p inside within in
+      let there = subst (λ ps. slice_get ps (i + n * j) ≡ Some reached.0) (sym (c.along-within.ensures ∙ c.as_slice.ensures.value)) reached.1 in
+      c.in_ok-each.ensures m base env (i + n * j) reached.0 v there reached.2.there
+      (body_further m (path_of p) (path_of reached.0) c.level-level.result (i + n * j) u base c.args.at.scope.now env c.args.bodies reached.2 h)
+      (subst (λ ms. HasMember m u ms (i + n * j) v) (sym c.as_slice-2.ensures.value) (subst (λ w. HasMember m u c.in_ok-turns.turns.items (i + n * j) w) same turn));
 }
 
 pub each_joined-returns-in-Varied : goal.each_joined-returns-in-Varied
-each_joined-returns-in-Varied t c = λ m base env i inside set body.
-    let k = nth m c.args.cases.count i in
-    c.joined_over.ensures m base env i (resolved_value c.args.bodies.set.now env) inside body
-    (subst (λ h. HeadsIn k c.args.self.now base h (resolved_value c.args.bodies.set.now env)) c.in-Varied.is (c.in_ok-set.ensures.head k base env set))
+each_joined-returns-in-Varied t c = λ m base env i p inside set body.
+    let v = resolved_value c.args.bodies.set.now env in
+    c.joined_sets.ensures m base env i p v inside body
+    (subst (λ ss. HoldsFor c.args.self.now ss i v) (sym c.as_slice.ensures.value) (c.in_ok-sets.ensures m base env i p inside set))
 
-pub joined_over-loop-t-init : goal.joined_over-loop-t-init
-joined_over-loop-t-init t c =
-    over_start c.args.self.now c.args.at.scope.now c.args.sets.now c.args.bodies c.args.op c.args.cases.count c.in_ok-all.all
-    (λ m base env i s v inside meets varied at.
-    let u = c.args.self.now in
-    let n = c.args.cases.count in
-    let count : length c.as_slice.result.now ≡ n = ap length c.as_slice.ensures.value ∙ c.in_ok-turns.ensures.length in
-    c.in_ok-all.ensures m c.args.op i (resolved_body c.args.bodies env v) inside
-    (c.in_ok-found.ensures m base env i v (subst (λ k. i < k) (sym count) inside)
-    (subst (λ k. MeetsBodyIn (nth m k i) u base c.args.at.scope.now env c.args.bodies) (sym count) meets)
-    (subst (λ xs. HasMember m u xs i v) (sym c.as_slice.ensures.value) (c.in_ok-turns.ensures.members m i s v inside varied at))))
+pub each_counted-returns-in-Varied : goal.each_counted-returns-in-Varied
+each_counted-returns-in-Varied t c = λ m base env i p inside set body.
+    let v = resolved_value c.args.bodies.set.now env in
+    c.counted_over.ensures m base env i p v inside body
+    (subst (λ ss. HoldsFor c.args.self.now ss i v) (sym c.as_slice.ensures.value) (c.in_ok-sets.ensures m base env i p inside set))
 
-pub joined_over-loop-t-preserved : goal.joined_over-loop-t-preserved
-joined_over-loop-t-preserved t c =
-    over_more c.args.self.now c.args.at.scope.now c.args.sets.now c.args.bodies c.args.op c.args.cases.count c.loop-t.t c.loop-t.all c.in_ok-all-2.all
-    c.loop-t.invariant c.loop-t.auto.t
-    (λ m base env i s v x inside meets varied within at known.
+pub look-returns : goal.look-returns
+look-returns t c = record {
+  each = λ m base env l r p s v at there meets holds member.
+      let u = c.args.self.now in
+      let over = c.args.over.now in
+      let found = c.in_ok-lanes.ensures.each m l r p s v at there holds member in
+      let path = found.0.0 in
+      let here = subst (λ ps. slice_get ps l ≡ Some path) (sym (c.along-within.ensures ∙ c.as_slice.ensures.value)) found.0.1 in
+      c.in_ok-each.ensures m base env l path v here found.0.2.there
+      (body_further m (path_of p) (path_of path) over.level l u base over.at.scope.now env over.bodies found.0.2 meets)
+      (subst (λ ms. HasMember m u ms l v) (sym c.as_slice-members.ensures.value) found.1);
+}
+
+pub lane-returns-clause-found : goal.lane-returns-clause-found
+lane-returns-clause-found t c = elim c.match-at.branch [
+  | lane-in-Some w ↦
+      let h = w.in-Some.ensures in
+      (c.args.looked.now, h.0, c.requires, h.1, subst (λ s. known_at c.args.looked.now.each h.0 ≡ Some s) (sym w.found-is) h.2)
+  | lane-in-None+in_ok-looked-in-None+in_ok-found-in-None w ↦
+      let seen = w.in_ok-looked-in-None.field-0 in
+      let h = subst (λ o. IfSome o (IsAt seen c.args.turn)) w.in_ok-found-in-None.ensures.ok_part w.at-in-None.ensures in
+      (seen, h.0, w.in_ok-looked-in-None.ensures, h.1, subst (λ s. known_at seen.each h.0 ≡ Some s) (sym w.found-is) h.2)
+]
+
+pub joined_in-loop-j-init : goal.joined_in-loop-j-init
+joined_in-loop-j-init t c = record { looked = c.requires; holds = λ m base env p s there meets holds. c.none-all.ensures.joined m c.args.op }
+
+pub joined_in-loop-j-preserved : goal.joined_in-loop-j-preserved
+joined_in-loop-j-preserved t c =
     let u = c.args.self.now in
-    let n = c.args.cases.count in
-    let count : length c.as_slice-in-loop-t.result.now ≡ n = ap length c.as_slice-in-loop-t.ensures.value ∙ c.in_ok-turns-2.ensures.length in
-    c.in_ok-all-2.ensures.more m i s x (resolved_body c.args.bodies env v) inside varied within known
-    (c.in_ok-next.ensures m base env i v (subst (λ k. i < k) (sym count) inside)
-    (subst (λ k. MeetsBodyIn (nth m k i) u base c.args.at.scope.now env c.args.bodies) (sym count) meets)
-    (subst (λ xs. HasMember m u xs i v) (sym c.as_slice-in-loop-t.ensures.value) (c.in_ok-turns-2.ensures.members m i s v inside varied at))))
-    (λ m i s x inside varied few known. c.in_ok-all-2.ensures.same m i s x inside varied few known)
+    let over = c.args.over.now in
+    let set = lent_at over.sets.now c.args.i c.get.result c.in_ok-set.set c.get.ensures.lookup c.in_ok-set.ensures.ok_part in
+    joined_lanes_more u over c.args.op c.args.i c.loop-j.j c.loop-j.all c.in_ok-all.all c.in_ok-next.next c.loop-j.looked c.lane.new.looked c.loop-j.invariant
+    c.in_ok-next.ensures.looked c.in_ok-next.ensures.found
+    (λ s holds. omega (
+      arith,
+      c.loop-j-test.true,
+      lane_count u over.sets.now c.held_members-count.result.now c.args.i c.in_ok-set.set.now s set c.held_members-count.ensures holds,
+    ))
+    (λ m w none h. subst (λ o. IfSome o (λ (s : Summary). IsSummary m s (connected_all c.args.op (w ∷ [])))) c.in_ok-all.ensures.ok_part (c.joined_with.ensures.first m w none h))
+    (λ m v w some h k. subst (λ o. IfSome o (λ (s : Summary). IsSummary m s (binary_value (Logic c.args.op) v w))) c.in_ok-all.ensures.ok_part
+    (c.joined_with.ensures.more m v w some h k))
+
+pub joined_in-returns-clause-holds : goal.joined_in-returns-clause-holds
+joined_in-returns-clause-holds t c = λ m base env p s there meets holds.
+    let u = c.args.self.now in
+    let over = c.args.over.now in
+    let set = lent_at over.sets.now c.args.i c.get.result c.in_ok-set.set c.get.ensures.lookup c.in_ok-set.ensures.ok_part in
+    let count = lane_count u over.sets.now c.held_members-count.result.now c.args.i c.in_ok-set.set.now s set c.held_members-count.ensures holds in
+    subst (λ vs. IsSummary m c.loop-j.all (connected_all c.args.op vs))
+    (all_bodies over.bodies env s c.loop-j.j (omega (arith, count, c.loop-j-test.false, c.loop-j.auto.j-end)))
+    (c.loop-j.invariant.holds m base env p s there meets holds)
+
+pub counted_in-loop-j-init : goal.counted_in-loop-j-init
+counted_in-loop-j-init t c = record {
+  looked = c.requires;
+  holds = λ m base env p s there meets holds. record { weight = c.none-all.ensures.weight; fact = (c.none-all.ensures.joined m And).fact };
+}
+
+pub counted_in-loop-j-preserved : goal.counted_in-loop-j-preserved
+counted_in-loop-j-preserved t c =
+    let u = c.args.self.now in
+    let over = c.args.over.now in
+    let set = lent_at over.sets.now c.args.i c.get.result c.in_ok-set.set c.get.ensures.lookup c.in_ok-set.ensures.ok_part in
+    gathered_lanes_more u over c.args.i c.loop-j.j c.loop-j.all c.in_ok-all.all c.in_ok-next.next c.loop-j.looked c.lane.new.looked c.loop-j.invariant
+    c.in_ok-next.ensures.looked c.in_ok-next.ensures.found
+    (λ s holds. omega (
+      arith,
+      c.loop-j-test.true,
+      lane_count u over.sets.now c.held_members-members.result.now c.args.i c.in_ok-set.set.now s set c.held_members-members.ensures holds,
+    ))
+    (λ m vs w h k. subst (λ o. IfSome o (λ (s : Summary). IsGathered m s (vs ++ w ∷ []))) c.in_ok-all.ensures.ok_part (c.gathered_with.ensures m vs w h k))
+
+pub counted_in-returns-then-members-eq0-clause-holds : goal.counted_in-returns-then-members-eq0-clause-holds
+counted_in-returns-then-members-eq0-clause-holds t c = λ m base env p s there meets holds.
+    let u = c.args.self.now in
+    let over = c.args.over.now in
+    let bodies = resolved_bodies over.bodies env s in
+    let set = lent_at over.sets.now c.args.i c.get.result c.in_ok-set.set c.get.ensures.lookup c.in_ok-set.ensures.ok_part in
+    let count = lane_count u over.sets.now c.held_members-members.result.now c.args.i c.in_ok-set.set.now s set c.held_members-members.ensures holds in
+    let none : bodies ≡ [] = none_left bodies (length bodies) refl (omega (arith, count, bodies_count over.bodies env s, c.if-members-eq0.true)) in
+    let known = subst (IsGathered m c.loop-j.all)
+    (all_bodies over.bodies env s c.loop-j.j (omega (arith, count, c.loop-j-test.false, c.loop-j.auto.j-end)) ∙ none)
+    (c.loop-j.invariant.holds m base env p s there meets holds) in
+    subst (λ vs. IsSummary m c.loop-j.all (counted c.args.op c.args.number vs)) (sym none) (record { weight = known.weight; fact = known.fact })
+
+pub counted_in-returns-clause-holds : goal.counted_in-returns-clause-holds
+counted_in-returns-clause-holds t c = λ m base env p s there meets holds.
+    let u = c.args.self.now in
+    let over = c.args.over.now in
+    let bodies = resolved_bodies over.bodies env s in
+    let set = lent_at over.sets.now c.args.i c.get.result c.in_ok-set.set c.get.ensures.lookup c.in_ok-set.ensures.ok_part in
+    let count = lane_count u over.sets.now c.held_members-members.result.now c.args.i c.in_ok-set.set.now s set c.held_members-members.ensures holds in
+    let same : length c.held_members-members.result.now ≡ length bodies = omega (arith, count, bodies_count over.bodies env s) in
+    c.in_ok-of.ensures m bodies same (omega (arith, same, c.if-members-eq0.false))
+    (subst (IsGathered m c.loop-j.all) (all_bodies over.bodies env s c.loop-j.j (omega (arith, count, c.loop-j-test.false, c.loop-j.auto.j-end)))
+    (c.loop-j.invariant.holds m base env p s there meets holds))
+
+pub joined_over-loop-i-preserved : goal.joined_over-loop-i-preserved
+joined_over-loop-i-preserved t c =
+    let u = c.args.self.now in
+    let f = connected_all c.args.op in (
+      c.in_ok-found.ensures.looked,
+      known_more (OfLanes u c.args.at.scope.now c.args.cases.paths.now c.args.bodies c.args.sets.now f) c.loop-i.i c.loop-i.all.items c.push.new.self.items
+          c.in_ok-found.found c.loop-i.invariant.1 c.in_ok-push.ensures.items
+          (lanes_known u c.over-over.result c.args.at c.args.cases c.args.bodies c.args.sets.now f c.loop-i.i c.in_ok-found.found c.over-over.ensures.at
+          c.over-over.ensures.cases c.over-over.ensures.bodies c.over-over.ensures.sets c.in_ok-found.ensures.holds),
+    )
 
 pub joined_over-returns : goal.joined_over-returns
-joined_over-returns t c = λ m base env i s inside meets varied.
-    let sizes = c.in_ok-most.ensures.each m c.args.cases.count i s inside varied in
-    over_all c.args.self.now c.args.at.scope.now c.args.sets.now c.args.bodies c.args.op c.args.cases.count c.loop-t.t c.loop-t.all c.loop-t.invariant
-    m base env i s inside sizes.0 (omega (arith, sizes.1, c.loop-t-test.false)) meets varied
+joined_over-returns t c = λ m base env i p s there meets holds.
+    c.loop-i.invariant.1.known m i (connected_all c.args.op (resolved_bodies c.args.bodies env s))
+    (omega (arith, slice_get_within c.args.cases.paths.now i p there, c.len-i-end.ensures, c.loop-i-test.false))
+    (base, env, p, s, there, meets, holds, refl)
+
+pub counted_over-loop-i-preserved : goal.counted_over-loop-i-preserved
+counted_over-loop-i-preserved t c =
+    let u = c.args.self.now in
+    let f = counted c.args.op c.args.number in (
+      c.in_ok-found.ensures.looked,
+      known_more (OfLanes u c.args.at.scope.now c.args.cases.paths.now c.args.bodies c.args.sets.now f) c.loop-i.i c.loop-i.all.items c.push.new.self.items
+          c.in_ok-found.found c.loop-i.invariant.1 c.in_ok-push.ensures.items
+          (lanes_known u c.over-over.result c.args.at c.args.cases c.args.bodies c.args.sets.now f c.loop-i.i c.in_ok-found.found c.over-over.ensures.at
+          c.over-over.ensures.cases c.over-over.ensures.bodies c.over-over.ensures.sets c.in_ok-found.ensures.holds),
+    )
+
+pub counted_over-returns : goal.counted_over-returns
+counted_over-returns t c = λ m base env i p s there meets holds.
+    c.loop-i.invariant.1.known m i (counted c.args.op c.args.number (resolved_bodies c.args.bodies env s))
+    (omega (arith, slice_get_within c.args.cases.paths.now i p there, c.len-i-end.ensures, c.loop-i-test.false))
+    (base, env, p, s, there, meets, holds, refl)
+
+pub joined_singles-returns : goal.joined_singles-returns
+joined_singles-returns t c = λ m op base env i p s there meets holds.
+    let u = c.args.self.now in
+    let bodies = resolved_bodies c.args.bodies env s in
+    let size = c.requires.single i s holds in
+    let v = get_or (members s) 0 (truth_value false) in
+    let at : slice_get (members s) 0 ≡ Some v = member_at (members s) 0 (length (members s)) refl (omega (arith, size)) in
+    let w = resolved_body c.args.bodies env v in
+    let has = subst (λ ms. HasMember m u ms i v) (sym c.as_slice.ensures.value) (c.in_ok-members.ensures m i s v holds at) in
+    let known = c.in_ok-each.ensures m base env i p v there (c.requires.numbered i p there) meets has in
+    let one : take 1 bodies ≡ bodies = all_bodies c.args.bodies env s 1 (sym size) in
+    subst (λ x. IfOk c.formulas.result (λ r. KnownFor m r i x))
+    (joined_one op bodies w (body_at c.args.bodies env s v 0 at) ∙ ap (connected_all op) one)
+    (c.formulas.ensures m op i w (subst (λ n. i < n) (sym c.len.ensures) (slice_get_within c.args.cases.paths.now i p there)) known)
+
+pub joined_sets-returns-then-are_numbered : goal.joined_sets-returns-then-are_numbered
+joined_sets-returns-then-are_numbered t c = λ m base env i p s there meets holds.
+    c.joined_singles.ensures m c.args.op base env i p s there meets holds

@@ -1,6 +1,10 @@
 use Rattle.std.proofs.Common.{◌+◌, ◌*◌}
 use Rattle.c2po_unfold.specs.Ahead.{AreListed}
-use Rattle.c2po_unfold.proofs.Joining.{GatheredInCases, JoinedInCases, JoinedOver}
+use Rattle.c2po_unfold.proofs.Joining.{GatheredInCases, JoinedInCases}
+use Rattle.c2po_unfold.specs.Lanes.{AreLooked}
+use Rattle.c2po_unfold.specs.Values.{connected_all, counted}
+use Rattle.c2po_unfold.proofs.Lanewise.{GatheredLanes, JoinedLanes, OfLanes}
+use Rattle.c2po_unfold.proofs.Several.{KnownSoFar}
 use Rattle.c2po_unfold.proofs.unfolding.Unfolding.+each.Given as goal
 
 abbrev pub decreases-each_of : goal.decreases-each_of
@@ -16,7 +20,7 @@ abbrev pub decreases-each_column : goal.decreases-each_column
 decreases-each_column l = 10 * l.at.depth + 5
 
 abbrev pub decreases-each_joined : goal.decreases-each_joined
-decreases-each_joined l = 10 * l.at.depth + 6
+decreases-each_joined l = 10 * l.at.depth + 8
 
 abbrev pub decreases-bodies_from : goal.decreases-bodies_from
 decreases-bodies_from l = 10 * l.at.depth + 4
@@ -25,16 +29,16 @@ abbrev pub decreases-held_bodies : goal.decreases-held_bodies
 decreases-held_bodies l = 10 * l.at.depth + 3
 
 abbrev pub invariant-each_joined-loop-i : goal.invariant-each_joined-loop-i
-invariant-each_joined-loop-i l = JoinedInCases l.self l.at.scope.now l.set l.bodies l.op l.cases.count l.i l.all l.ahead
+invariant-each_joined-loop-i l = JoinedInCases l.self l.at.scope.now l.set l.bodies l.op l.cases.paths.now l.i l.all l.ahead
 
 abbrev pub decreases-each_counted : goal.decreases-each_counted
-decreases-each_counted l = 10 * l.at.depth + 6
+decreases-each_counted l = 10 * l.at.depth + 7
 
 abbrev pub decreases-each_gathered : goal.decreases-each_gathered
 decreases-each_gathered l = 10 * l.at.depth + 5
 
 abbrev pub invariant-each_gathered-loop-i : goal.invariant-each_gathered-loop-i
-invariant-each_gathered-loop-i l = GatheredInCases l.self l.at.scope.now l.set l.bodies l.cases.count l.i l.all l.ahead
+invariant-each_gathered-loop-i l = GatheredInCases l.self l.at.scope.now l.set l.bodies l.cases.paths.now l.i l.all l.ahead
 
 abbrev pub decreases-one_body : goal.decreases-one_body
 decreases-one_body l = 10 * l.at.depth + 2
@@ -49,10 +53,42 @@ abbrev pub decreases-listed : goal.decreases-listed
 decreases-listed l = 10 * l.at.depth + 2
 
 abbrev pub invariant-listed-loop-e : goal.invariant-listed-loop-e
-invariant-listed-loop-e l = AreListed l.self l.at.scope.now l.cases.count l.es l.e-index l.all.items
+invariant-listed-loop-e l = AreListed l.self l.at.scope.now l.cases.paths.now l.es l.e-index l.all.items
+
+abbrev pub decreases-look : goal.decreases-look
+decreases-look l = 10 * l.over.now.at.depth + 3
+
+abbrev pub decreases-lane : goal.decreases-lane
+decreases-lane l = 10 * l.over.now.at.depth + 4
+
+abbrev pub decreases-joined_in : goal.decreases-joined_in
+decreases-joined_in l = 10 * l.over.now.at.depth + 5
+
+abbrev pub decreases-counted_in : goal.decreases-counted_in
+decreases-counted_in l = 10 * l.over.now.at.depth + 5
 
 abbrev pub decreases-joined_over : goal.decreases-joined_over
-decreases-joined_over l = 10 * l.at.depth + 5
+decreases-joined_over l = 10 * l.at.depth + 6
 
-abbrev pub invariant-joined_over-loop-t : goal.invariant-joined_over-loop-t
-invariant-joined_over-loop-t l = JoinedOver l.self l.at.scope.now l.sets l.bodies l.op l.cases.count l.t l.all
+abbrev pub decreases-counted_over : goal.decreases-counted_over
+decreases-counted_over l = 10 * l.at.depth + 6
+
+abbrev pub invariant-joined_in-loop-j : goal.invariant-joined_in-loop-j
+invariant-joined_in-loop-j l = JoinedLanes l.self l.over l.op l.i l.j l.all l.looked
+
+abbrev pub invariant-counted_in-loop-j : goal.invariant-counted_in-loop-j
+invariant-counted_in-loop-j l = GatheredLanes l.self l.over l.i l.j l.all l.looked
+
+abbrev pub invariant-joined_over-loop-i : goal.invariant-joined_over-loop-i
+invariant-joined_over-loop-i l =
+    AreLooked l.self l.over l.looked × KnownSoFar (OfLanes l.self l.at.scope.now l.cases.paths.now l.bodies l.sets (connected_all l.op)) l.i l.all.items
+
+abbrev pub invariant-counted_over-loop-i : goal.invariant-counted_over-loop-i
+invariant-counted_over-loop-i l =
+    AreLooked l.self l.over l.looked × KnownSoFar (OfLanes l.self l.at.scope.now l.cases.paths.now l.bodies l.sets (counted l.op l.number)) l.i l.all.items
+
+abbrev pub decreases-joined_sets : goal.decreases-joined_sets
+decreases-joined_sets l = 10 * l.at.depth + 7
+
+abbrev pub decreases-joined_singles : goal.decreases-joined_singles
+decreases-joined_singles l = 10 * l.at.depth + 3

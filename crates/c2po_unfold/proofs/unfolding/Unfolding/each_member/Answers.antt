@@ -1,16 +1,19 @@
-use Rattle.std.proofs.Common.{◌≡◌, Some, slice_get, subst, arith}
-use Rattle.c2po_unfold.proofs.Several.{OfTurn, known_more, lent_at, turn_holds}
+use Rattle.std.proofs.Common.{arith}
+use Rattle.std.proofs.lemmas.Option.{slice_get-get_or, slice_get_within}
+use Rattle.c2po_unfold.proofs.Several.{known_more}
+use Rattle.c2po_unfold.proofs.Pathwise.{OfChoice, member_known, path_here}
 use Rattle.c2po_unfold.proofs.unfolding.Unfolding.each_member.Goals as goal
 
-pub loop-i-preserved : goal.loop-i-preserved
-loop-i-preserved c =
+pub loop-path-preserved : goal.loop-path-preserved
+loop-path-preserved c =
     let u = c.args.self.now in
-    let ms = c.args.members.now in
-    let i = c.loop-i.i in
-    known_more (OfTurn u c.args.count ms) i c.loop-i.all.items c.push.new.self.items c.in_ok-member.member.now.summary c.loop-i.invariant c.in_ok-push.ensures.items
-    (λ m v h. (turn_holds m c.args.count i u ms v c.in_ok-member.member.now h
-    (subst (λ k. slice_get ms k ≡ Some c.in_ok-member.member.now) c.turn.ensures
-    (lent_at ms c.turn.result c.get.result c.in_ok-member.member c.get.ensures.lookup c.in_ok-member.ensures.ok_part))).known)
+    let paths = c.args.cases.paths.now in
+    let i = c.loop-path.path-index in
+    known_more (OfChoice u c.args.choice paths) i c.loop-path.all.items c.push.new.self.items c.in_ok-member.member.now.summary c.loop-path.invariant
+    c.in_ok-push.ensures.items
+    (λ m v h.
+    let varied = path_here u c.args.choice paths m i _ v h (slice_get-get_or paths i _ c.loop-path-test.true) in
+    (member_known m u c.member.result c.in_ok-member.member v (c.member.ensures m u v varied) c.in_ok-member.ensures.ok_part).known)
 
 pub returns : goal.returns
-returns c = λ m i v inside h. c.loop-i.invariant.known m i v (omega (arith, inside, c.loop-i.auto.i-end)) h
+returns c = λ m i p v at h. c.loop-path.invariant.known m i v (omega (arith, c.loop-path-test.false, slice_get_within c.args.cases.paths.now i p at)) (p, at, h)

@@ -1,5 +1,6 @@
-use Rattle.c2po_unfold.proofs.Several.{KnownSoFar, OfTurn}
+use Rattle.c2po_unfold.proofs.Pathwise.{OfChoice}
+use Rattle.c2po_unfold.proofs.Several.{KnownSoFar}
 use Rattle.c2po_unfold.proofs.unfolding.Unfolding.each_member.Given as goal
 
-abbrev pub invariant-loop-i : goal.invariant-loop-i
-invariant-loop-i l = KnownSoFar (OfTurn l.self l.count l.members) l.i l.all.items
+abbrev pub invariant-loop-path : goal.invariant-loop-path
+invariant-loop-path l = KnownSoFar (OfChoice l.self l.choice l.cases.paths.now) l.path-index l.all.items

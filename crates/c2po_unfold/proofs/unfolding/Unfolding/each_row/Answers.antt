@@ -1,22 +1,19 @@
-use Rattle.std.proofs.Common.{◌≡◌, Some, slice_get, subst, sym, arith}
-use Rattle.c2po_unfold.specs.Holding.{Holds}
-use Rattle.c2po_unfold.proofs.Several.{OfRow, known_more, lent_at, turn_holds}
+use Rattle.std.proofs.Common.{arith}
+use Rattle.std.proofs.lemmas.Option.{slice_get-get_or, slice_get_within}
+use Rattle.c2po_unfold.proofs.Several.{known_more}
+use Rattle.c2po_unfold.proofs.Pathwise.{OfFound, found_known, path_here}
 use Rattle.c2po_unfold.proofs.unfolding.Unfolding.each_row.Goals as goal
 
-pub loop-i-preserved : goal.loop-i-preserved
-loop-i-preserved c =
+pub loop-path-preserved : goal.loop-path-preserved
+loop-path-preserved c =
     let u = c.args.self.now in
-    let ms = c.args.members.now in
-    let i = c.loop-i.i in
-    let member = c.in_ok-member.member.now in
-    let row = c.in_ok-row.row.now in
-    let at = subst (λ k. slice_get ms k ≡ Some member) c.turn.ensures
-    (lent_at ms c.turn.result c.get.result c.in_ok-member.member c.get.ensures.lookup c.in_ok-member.ensures.ok_part) in
-    known_more (OfRow u c.args.count ms c.args.rows.now) i c.loop-i.all.items c.push.new.self.items c.held.result c.loop-i.invariant c.in_ok-push.ensures.items
-    (λ m v h. c.held.ensures.holds m v
-    (h.2 member.index row
-    (lent_at c.args.rows.now member.index c.get-in-loop-i.result c.in_ok-row.row c.get-in-loop-i.ensures.lookup c.in_ok-row.ensures.ok_part)
-    (subst (λ s. Holds u s h.0) (sym (c.is.ensures c.if-not-is.false)) ((turn_holds m c.args.count i u ms h.0 member h.1 at).holds c.in_ok-stored.stored c.in_ok-stored.ensures.ok_part))))
+    let paths = c.args.cases.paths.now in
+    let i = c.loop-path.path-index in
+    known_more (OfFound u c.args.choice c.args.rows.now paths) i c.loop-path.all.items c.push.new.self.items c.held.result c.loop-path.invariant
+    c.in_ok-push.ensures.items
+    (λ m v h.
+    let varied = path_here u c.args.choice paths m i _ h.0 h.1 (slice_get-get_or paths i _ c.loop-path-test.true) in
+    c.held.ensures.holds m v (found_known u c.found.result c.in_ok-found.found v (c.found.ensures m u h.0 v varied h.2) c.in_ok-found.ensures.ok_part))
 
 pub returns : goal.returns
-returns c = λ m i w v inside h k. c.loop-i.invariant.known m i v (omega (arith, inside, c.loop-i.auto.i-end)) (w, h, k)
+returns c = λ m i p w v at h lead. c.loop-path.invariant.known m i v (omega (arith, c.loop-path-test.false, slice_get_within c.args.cases.paths.now i p at)) (w, (p, at, h), lead)

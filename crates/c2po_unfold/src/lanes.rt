@@ -1,0 +1,509 @@
+//! Quantifiers over sets that differ from case to case.
+//!
+//! The members of the sets of all cases follow one another, and up to [`TOGETHER`] of them are looked at together. So no
+//! body is looked at that isn't there, however much the sets differ in size.
+
+ghost use Rattle.std.specs.Prelude.{◌≡◌, ◌<◌, ℕ, true, ◌∷◌, ◌++◌, [], List as Seq, Some, IfOk, IfSome, OnOk, length, slice_get};
+ghost use Rattle.mltl_base.specs.declared.operators.LogicOp.{LogicOp as Connective};
+ghost use Rattle.c2po_unfold.specs.declared.lanes.Looked.{Looked as Seen};
+ghost use Rattle.c2po_unfold.specs.declared.operators.BinaryOp.TheVariants.{Logic};
+ghost use Rattle.c2po_unfold.specs.declared.path.Path.{Path as CasePath};
+ghost use Rattle.c2po_unfold.specs.Ahead.{HasMember, HoldsFor, IsGathered, KnownFor, known_at};
+ghost use Rattle.c2po_unfold.specs.Bodies.{MeetsBodyIn};
+ghost use Rattle.c2po_unfold.specs.Cases.{chosen, path_of};
+ghost use Rattle.c2po_unfold.specs.Covering.{Mode};
+ghost use Rattle.c2po_unfold.specs.Environment.{Env};
+ghost use Rattle.c2po_unfold.specs.Lanes.{AreLanes, AreLooked};
+ghost use Rattle.c2po_unfold.specs.Operators.{binary_value};
+ghost use Rattle.c2po_unfold.specs.Resolving.{resolved_bodies};
+ghost use Rattle.c2po_unfold.specs.Summaries.{IsSummary};
+ghost use Rattle.c2po_unfold.specs.Values.{Value, connected_all, counted, members};
+
+use crate::Unfolding;
+use crate::counting::Counting;
+use crate::each::{Each, Stop};
+use crate::operators::BinaryOp;
+use crate::path::{Cases, Path};
+use crate::resolved::Quantified;
+use crate::room::Room;
+use crate::scope::{Member, Site};
+use crate::summary::Summary;
+use crate::together::TOGETHER;
+use crate::values::Stored;
+use mltl_base::{CountOp, LogicOp};
+use std::alloc::{AllocError, Global};
+
+/// How many members are looked for at most, where some cases have none.
+const LOOKS: usize = 2 * TOGETHER;
+
+/// Which member of the set of which case.
+#[derive(Clone, Copy)]
+pub(crate) struct Turn {
+    pub case: usize,
+    pub member: usize,
+}
+
+/// Members of the sets of cases, one after the other, each with its turn and with the path of the case in which a variable is
+/// that member.
+#[derive(Drop)]
+pub(crate) struct Lanes {
+    pub turns: Vec<Turn>,
+    pub members: Vec<Member>,
+    pub paths: Vec<Path>,
+}
+
+/// What is known of a quantifier's bodies for such members, and the number of the first that wasn't asked for yet.
+#[derive(Drop)]
+pub(crate) struct Looked {
+    pub lanes: Lanes,
+    pub each: Each,
+    pub next: usize,
+}
+
+/// A quantifier over a set that differs from case to case.
+#[derive(Clone, Copy)]
+pub(crate) struct Over<'a> {
+    pub at: Site<'a>,
+    pub cases: Cases<'a>,
+    pub bodies: Quantified<'a>,
+    /// The set of each case.
+    pub sets: &'a [Stored],
+    /// The level at which a path says the member.
+    pub level: usize,
+    pub room: Room,
+}
+
+impl Turn {
+    /// The first member of the next case.
+    fn next_case(self) -> Result<Turn, Stop> {
+        Ok(Turn {
+            case: self.case.checked_add(1).ok_or(Stop::Alone)?,
+            member: 0,
+        })
+    }
+
+    /// The next member of this case.
+    fn next_member(self) -> Result<Turn, Stop> {
+        Ok(Turn {
+            case: self.case,
+            member: self.member.checked_add(1).ok_or(Stop::Alone)?,
+        })
+    }
+
+    /// Whether this is the same turn.
+    fn is(self, other: Turn) -> bool
+        ensures { result ≡ true → self ≡ other }
+    {
+        self.case == other.case && self.member == other.member
+    }
+}
+
+impl Lanes {
+    /// No members, with room for as many as are looked at together.
+    fn none(alloc: Global) -> Result<Lanes, AllocError>
+        ensures turns { IfOk result (λ r. r.turns.items ≡ []) }
+        ensures members { IfOk result (λ r. r.members.items ≡ []) }
+        ensures paths { IfOk result (λ r. r.paths.items ≡ []) }
+    {
+        Ok(Lanes {
+            turns: Vec::with_capacity(alloc, TOGETHER)?,
+            members: Vec::with_capacity(alloc, TOGETHER)?,
+            paths: Vec::with_capacity(alloc, TOGETHER)?,
+        })
+    }
+
+    /// Puts a stored member, of which this is known, after those that are there.
+    fn push(&mut self, turn: Turn, summary: Summary, stored: Stored, path: Path) -> Result<(), Stop>
+        ensures turns { OnOk result (self.new.turns.items ≡ self.old.turns.items ++ turn ∷ []) }
+        ensures members { OnOk result (self.new.members.items ≡ self.old.members.items
+            ++ record { summary = summary; stored = Some stored; index = turn.member } ∷ []) }
+        ensures paths { OnOk result (self.new.paths.items ≡ self.old.paths.items ++ path ∷ []) }
+    {
+        self.turns.push(turn)?;
+        self.members.push(Member {
+            summary,
+            stored: Some(stored),
+            index: turn.member,
+        })?;
+        self.paths.push(path)?;
+        Ok(())
+    }
+}
+
+impl Looked {
+    /// Nothing is known of any body.
+    fn none(alloc: Global) -> Looked
+        ensures { result.lanes.turns.items ≡ [] }
+    {
+        Looked {
+            lanes: Lanes {
+                turns: Vec::new(alloc),
+                members: Vec::new(alloc),
+                paths: Vec::new(alloc),
+            },
+            each: Each::Same(Summary::none()),
+            next: 0,
+        }
+    }
+
+    /// What is known of the body for the next member, if that has this turn.
+    #[inline(always)]
+    fn at(&self, turn: Turn) -> Option<Summary>
+        ensures { IfSome result (λ s. (l : ℕ)
+            × (slice_get self.now.lanes.turns.items l ≡ Some turn)
+            × (known_at self.now.each l ≡ Some s)) }
+    {
+        let own = self.lanes.turns.as_slice().get(self.next)?;
+        if own.is(turn) {
+            self.each.get(self.next).copied()
+        } else {
+            None
+        }
+    }
+}
+
+/// What is known of joined bodies with one more after `j` others; nothing where that is too heavy.
+fn joined_with(
+    op: LogicOp,
+    joined: &Summary,
+    next: &Summary,
+    j: usize,
+    room: Room,
+) -> Option<Summary>
+    ensures first { (m : Mode) (w : Value) → j ≡ 0 → IsSummary m next.now w
+        → IfSome result (λ s. IsSummary m s (connected_all op (w ∷ []))) }
+    ensures more { (m : Mode) (v w : Value) → 0 < j → IsSummary m joined.now v
+        → IsSummary m next.now w
+        → IfSome result (λ s. IsSummary m s (binary_value (Logic op) v w)) }
+{
+    if j == 0 {
+        return Some(next.as_formula());
+    }
+    if !room.holds(joined.weight, next.weight) {
+        return None;
+    }
+    Some(Summary::over_two(BinaryOp::Logic(op), joined, next))
+}
+
+/// What is known of bodies together with one more; nothing where that is too heavy.
+fn gathered_with(bodies: &Summary, next: &Summary, room: Room) -> Option<Summary>
+    ensures { (m : Mode) (vs : Seq Value) (w : Value) → IsGathered m bodies.now vs
+        → IsSummary m next.now w → IfSome result (λ s. IsGathered m s (vs ++ w ∷ [])) }
+{
+    if !room.holds(bodies.weight, next.weight) {
+        return None;
+    }
+    Some(bodies.with(next))
+}
+
+impl Unfolding {
+    /// What is known in each case of the bodies of a quantifier, joined by an operator, where these are the sets of the cases.
+    #[cycle(each)]
+    pub(crate) fn joined_sets(
+        &self,
+        at: Site<'_>,
+        cases: Cases<'_>,
+        op: LogicOp,
+        bodies: Quantified<'_>,
+        sets: &[Stored],
+        room: Room,
+    ) -> Result<Each, Stop>
+        ensures { (m : Mode) (base env : Env) (i : ℕ) (p : CasePath) (s : Value)
+            → slice_get cases.entry.paths.now i ≡ Some p
+            → MeetsBodyIn (chosen m (path_of p)) self.now base at.entry.scope.now env bodies.entry
+            → HoldsFor self.now sets.now i s
+            → IfOk result
+            (λ r. KnownFor m r i (connected_all op (resolved_bodies bodies.entry env s))) }
+    {
+        let level = cases.level().saturating_sub(1);
+        if self.are_single(sets) && cases.are_numbered(level) {
+            self.joined_singles(at, cases, bodies, sets, level, room)
+        } else {
+            self.joined_over(at, cases, op, bodies, sets, room)
+        }
+    }
+
+    /// What is known in each case of the only body of a quantifier, where these are the sets of the cases and the path of each
+    /// case has the case's number at a level.
+    #[cycle(each)]
+    fn joined_singles(
+        &self,
+        at: Site<'_>,
+        cases: Cases<'_>,
+        bodies: Quantified<'_>,
+        sets: &[Stored],
+        level: usize,
+        room: Room,
+    ) -> Result<Each, Stop>
+        requires single { (i : ℕ) (s : Value) → HoldsFor self.now sets.now i s
+            → length (members s) ≡ 1 }
+        requires numbered { (i : ℕ) (p : CasePath) → slice_get cases.paths.now i ≡ Some p
+            → slice_get (path_of p) level ≡ Some i }
+        ensures { (m : Mode) (op : Connective) (base env : Env) (i : ℕ) (p : CasePath) (s : Value)
+            → slice_get cases.entry.paths.now i ≡ Some p
+            → MeetsBodyIn (chosen m (path_of p)) self.now base at.entry.scope.now env bodies.entry
+            → HoldsFor self.now sets.now i s
+            → IfOk result
+            (λ r. KnownFor m r i (connected_all op (resolved_bodies bodies.entry env s))) }
+    {
+        let members = self.firsts(sets)?;
+        let each = self.each_body(at, cases, bodies, members.as_slice(), level, room)?;
+        Each::formulas(self.alloc, &each, cases.len())
+    }
+
+    /// The same, whatever the sizes of the sets.
+    #[cycle(each)]
+    fn joined_over(
+        &self,
+        at: Site<'_>,
+        cases: Cases<'_>,
+        op: LogicOp,
+        bodies: Quantified<'_>,
+        sets: &[Stored],
+        room: Room,
+    ) -> Result<Each, Stop>
+        ensures { (m : Mode) (base env : Env) (i : ℕ) (p : CasePath) (s : Value)
+            → slice_get cases.entry.paths.now i ≡ Some p
+            → MeetsBodyIn (chosen m (path_of p)) self.now base at.entry.scope.now env bodies.entry
+            → HoldsFor self.now sets.now i s
+            → IfOk result
+            (λ r. KnownFor m r i (connected_all op (resolved_bodies bodies.entry env s))) }
+    {
+        let over = self.over(at, cases, bodies, sets, room);
+        let mut looked = Looked::none(self.alloc);
+        let mut all = Vec::with_capacity(self.alloc, cases.len())?;
+        for i in 0..cases.len() {
+            let found = self.joined_in(&over, op, i, &mut looked)?;
+            all.push(found)?;
+        }
+        Ok(Each::Own(all))
+    }
+
+    /// What is known in a case of the bodies of such a quantifier, joined by an operator.
+    #[cycle(each)]
+    fn joined_in(
+        &self,
+        over: &Over<'_>,
+        op: LogicOp,
+        i: usize,
+        looked: &mut Looked,
+    ) -> Result<Summary, Stop>
+        requires { AreLooked self.now over.now looked.old }
+        ensures looked { OnOk result (AreLooked self.now over.now looked.new) }
+        ensures holds { (m : Mode) (base env : Env) (p : CasePath) (s : Value)
+            → slice_get over.now.cases.paths.now i ≡ Some p
+            → MeetsBodyIn (chosen m (path_of p)) self.now base over.now.at.scope.now env
+            over.now.bodies → HoldsFor self.now over.now.sets.now i s
+            → IfOk result (λ r. IsSummary m r
+            (connected_all op (resolved_bodies over.now.bodies env s))) }
+    {
+        let set = over.sets.get(i).ok_or(Stop::Alone)?;
+        let count = self.held_members(*set).len();
+        let mut all = Summary::none();
+        for j in 0..count {
+            let turn = Turn { case: i, member: j };
+            let next = self.lane(over, turn, looked)?;
+            all = joined_with(op, &all, &next, j, over.room).ok_or(Stop::Alone)?;
+        }
+        Ok(all)
+    }
+
+    /// What is known in each case of a counting quantifier, where these are the sets of the cases.
+    #[cycle(each)]
+    pub(crate) fn counted_over(
+        &self,
+        at: Site<'_>,
+        cases: Cases<'_>,
+        op: CountOp,
+        number: u64,
+        bodies: Quantified<'_>,
+        sets: &[Stored],
+        room: Room,
+    ) -> Result<Each, Stop>
+        ensures { (m : Mode) (base env : Env) (i : ℕ) (p : CasePath) (s : Value)
+            → slice_get cases.entry.paths.now i ≡ Some p
+            → MeetsBodyIn (chosen m (path_of p)) self.now base at.entry.scope.now env bodies.entry
+            → HoldsFor self.now sets.now i s
+            → IfOk result
+            (λ r. KnownFor m r i (counted op number (resolved_bodies bodies.entry env s))) }
+    {
+        let over = self.over(at, cases, bodies, sets, room);
+        let mut looked = Looked::none(self.alloc);
+        let mut all = Vec::with_capacity(self.alloc, cases.len())?;
+        for i in 0..cases.len() {
+            let found = self.counted_in(&over, op, number, i, &mut looked)?;
+            all.push(found)?;
+        }
+        Ok(Each::Own(all))
+    }
+
+    /// What is known in a case of such a counting quantifier.
+    #[cycle(each)]
+    fn counted_in(
+        &self,
+        over: &Over<'_>,
+        op: CountOp,
+        number: u64,
+        i: usize,
+        looked: &mut Looked,
+    ) -> Result<Summary, Stop>
+        requires { AreLooked self.now over.now looked.old }
+        ensures looked { OnOk result (AreLooked self.now over.now looked.new) }
+        ensures holds { (m : Mode) (base env : Env) (p : CasePath) (s : Value)
+            → slice_get over.now.cases.paths.now i ≡ Some p
+            → MeetsBodyIn (chosen m (path_of p)) self.now base over.now.at.scope.now env
+            over.now.bodies → HoldsFor self.now over.now.sets.now i s
+            → IfOk result (λ r. IsSummary m r
+            (counted op number (resolved_bodies over.now.bodies env s))) }
+    {
+        let set = over.sets.get(i).ok_or(Stop::Alone)?;
+        let members = self.held_members(*set).len();
+        let mut all = Summary::none();
+        for j in 0..members {
+            let turn = Turn { case: i, member: j };
+            let next = self.lane(over, turn, looked)?;
+            all = gathered_with(&all, &next, over.room).ok_or(Stop::Alone)?;
+        }
+        if members == 0 {
+            return Ok(all);
+        }
+        let counting = Counting {
+            op,
+            number,
+            members,
+        };
+        Ok(counting.of(&all, over.room)?)
+    }
+
+    /// A quantifier over these sets.
+    fn over<'a>(
+        &self,
+        at: Site<'a>,
+        cases: Cases<'a>,
+        bodies: Quantified<'a>,
+        sets: &'a [Stored],
+        room: Room,
+    ) -> Over<'a>
+        ensures at { result.at ≡ at.entry }
+        ensures cases { result.cases ≡ cases.entry }
+        ensures bodies { result.bodies ≡ bodies.entry }
+        ensures sets { result.sets.now ≡ sets.now }
+    {
+        let level = if self.are_single(sets) {
+            cases.level().saturating_sub(1)
+        } else {
+            cases.level()
+        };
+        Over {
+            at,
+            cases,
+            bodies,
+            sets,
+            level,
+            room,
+        }
+    }
+
+    /// The first members of these sets.
+    fn firsts(&self, sets: &[Stored]) -> Result<Vec<Member>, Stop>
+        ensures { (m : Mode) (i : ℕ) (s v : Value) → HoldsFor self.now sets.now i s
+            → slice_get (members s) 0 ≡ Some v → IfOk result (λ r. HasMember m self.now r.items i v) }
+    {
+        let mut all = Vec::with_capacity(self.alloc, sets.len())?;
+        for set in sets {
+            let Some(stored) = self.held_members(*set).get(0) else {
+                return Err(Stop::Alone);
+            };
+            all.push(Member {
+                summary: self.held(*stored),
+                stored: Some(*stored),
+                index: 0,
+            })?;
+        }
+        Ok(all)
+    }
+
+    /// Whether each of these sets has one member: its cases are those that there are.
+    fn are_single(&self, sets: &[Stored]) -> bool
+        ensures { (i : ℕ) (s : Value) → result ≡ true → HoldsFor self.now sets.now i s
+            → length (members s) ≡ 1 }
+    {
+        for set in sets {
+            if self.held_members(*set).len() != 1 {
+                return false;
+            }
+        }
+        true
+    }
+
+    /// What is known of the body for a member of the set of a case, by what is known of several, or by a look at that
+    /// one and those after it.
+    #[cycle(each)]
+    fn lane(&self, over: &Over<'_>, turn: Turn, looked: &mut Looked) -> Result<Summary, Stop>
+        requires { AreLooked self.now over.now looked.old }
+        ensures looked { OnOk result (AreLooked self.now over.now looked.new) }
+        ensures found { IfOk result (λ s. (seen : Seen) × (l : ℕ)
+            × AreLooked self.now over.now seen
+            × (slice_get seen.lanes.turns.items l ≡ Some turn)
+            × (known_at seen.each l ≡ Some s)) }
+    {
+        let found = match looked.at(turn) {
+            Some(found) => found,
+            None => {
+                *looked = self.look(over, turn)?;
+                looked.at(turn).ok_or(Stop::Alone)?
+            }
+        };
+        looked.next = looked.next.saturating_add(1);
+        Ok(found)
+    }
+
+    /// What is known of the bodies for members of the sets from a turn on, together.
+    #[cycle(each)]
+    #[inline(never)]
+    fn look(&self, over: &Over<'_>, turn: Turn) -> Result<Looked, Stop>
+        ensures { IfOk result (AreLooked self.now over.now) }
+    {
+        let lanes = self.lanes(over, turn)?;
+        let within = over.cases.along(lanes.paths.as_slice());
+        let members = lanes.members.as_slice();
+        let each = self.each_body(over.at, within, over.bodies, members, over.level, over.room)?;
+        Ok(Looked {
+            lanes,
+            each,
+            next: 0,
+        })
+    }
+
+    /// The members of the sets from a turn on that are looked at together.
+    fn lanes(&self, over: &Over<'_>, turn: Turn) -> Result<Lanes, Stop>
+        ensures { IfOk result (AreLanes self.now over.now) }
+    {
+        let mut lanes = Lanes::none(self.alloc)?;
+        let mut turn = turn;
+        for _ in 0..LOOKS {
+            if lanes.members.len() >= TOGETHER || turn.case >= over.cases.len() {
+                break;
+            }
+            turn = self.add_lane(over, turn, &mut lanes)?;
+        }
+        Ok(lanes)
+    }
+
+    /// Puts the member that is in turn after others, if there is one, and returns the next turn.
+    fn add_lane(&self, over: &Over<'_>, turn: Turn, lanes: &mut Lanes) -> Result<Turn, Stop>
+        requires { AreLanes self.now over.now lanes.old }
+        ensures { OnOk result (AreLanes self.now over.now lanes.new) }
+    {
+        let set = over.sets.get(turn.case).ok_or(Stop::Alone)?;
+        let Some(stored) = self.held_members(*set).get(turn.member) else {
+            return turn.next_case();
+        };
+        let path = over.cases.paths.get(turn.case).ok_or(Stop::Alone)?;
+        let path = path
+            .reaching(over.level, lanes.members.len())
+            .ok_or(Stop::Alone)?;
+        lanes.push(turn, self.held(*stored), *stored, path)?;
+        turn.next_member()
+    }
+}

@@ -1,0 +1,161 @@
+//! The numbers by which a case chooses members.
+
+ghost use Rattle.std.specs.Prelude.{true, ◌≡◌, ◌+◌, ◌*◌, ◌%◌, ◌<◌, ℕ, Some, IfOk, IfSome, length, slice_get};
+ghost use Rattle.c2po_unfold.specs.Cases.{HasReached, IsReached, path_of};
+ghost use Rattle.c2po_unfold.specs.declared.path.Path.{Path as CasePath};
+
+use crate::each::Stop;
+use std::alloc::Global;
+
+/// How many numbers a path has at most.
+const LEVELS: usize = 15;
+
+/// What a case chooses: a number for each level at which members differ.
+#[derive(Clone, Copy)]
+pub struct Path {
+    numbers: [u8; LEVELS],
+    count: usize,
+}
+
+impl Path {
+    /// The path of the only case.
+    pub(crate) fn start() -> Path {
+        Path {
+            numbers: [0; LEVELS],
+            count: 0,
+        }
+    }
+
+    /// How many numbers it has.
+    pub(crate) fn len(&self) -> usize {
+        self.count
+    }
+
+    /// The number at a level, if there is one.
+    #[inline(always)]
+    pub(crate) fn at(&self, level: usize) -> Option<usize>
+        ensures { IfSome result (λ number. slice_get (path_of self.now) level ≡ Some number) }
+    {
+        if level >= self.count {
+            return None;
+        }
+        let number = self.numbers.get(level)?;
+        Some(usize::from(*number))
+    }
+
+    /// Whether it has this number at a level.
+    #[inline(always)]
+    fn has(&self, level: usize, number: usize) -> bool
+        ensures { result ≡ true → slice_get (path_of self.now) level ≡ Some number }
+    {
+        match self.at(level) {
+            Some(own) => own == number,
+            None => false,
+        }
+    }
+
+    /// The path with this number at a level: this one if it has it there, else with one number more; `None` where there is no
+    /// room for it, or another number at the level.
+    #[inline(always)]
+    pub(crate) fn reaching(&self, level: usize, number: usize) -> Option<Path>
+        ensures { IfSome result (λ r. IsReached (path_of self.now) (path_of r) level number) }
+    {
+        match self.at(level) {
+            Some(own) if own == number => Some(*self),
+            Some(_) => None,
+            None => self.with(level, number),
+        }
+    }
+
+    /// The path with one number more, which is at this level.
+    fn with(&self, level: usize, number: usize) -> Option<Path>
+        ensures { IfSome result (λ r. IsReached (path_of self.now) (path_of r) level number) }
+    {
+        if level != self.count || level >= LEVELS {
+            return None;
+        }
+        let mut numbers = self.numbers;
+        numbers[level] = u8::try_from(number).ok()?;
+        Some(Path {
+            numbers,
+            count: level + 1,
+        })
+    }
+}
+
+/// In which cases an expression is looked at, and whether quantifiers are among what is looked at.
+#[derive(Clone, Copy)]
+pub(crate) struct Cases<'a> {
+    pub paths: &'a [Path],
+    pub nested: bool,
+}
+
+/// The number of the case that is in turn.
+#[inline(always)]
+fn turn(l: usize, count: usize) -> usize
+    requires { 0 < count }
+    ensures { result ≡ l % count }
+{
+    if l < count { l } else { l % count }
+}
+
+impl<'a> Cases<'a> {
+    /// How many they are.
+    pub(crate) fn len(self) -> usize
+        ensures { result ≡ length self.entry.paths.now }
+    {
+        self.paths.len()
+    }
+
+    /// The cases of these paths.
+    pub(crate) fn along<'b>(self, paths: &'b [Path]) -> Cases<'b>
+        ensures { result.paths.now ≡ paths.now }
+    {
+        Cases {
+            paths,
+            nested: self.nested,
+        }
+    }
+
+    /// The first level at which they choose nothing.
+    pub(crate) fn level(self) -> usize {
+        match self.paths.get(0) {
+            Some(path) => path.len(),
+            None => 0,
+        }
+    }
+
+    /// Whether the path of each case has the number of the case at a level.
+    pub(crate) fn are_numbered(self, level: usize) -> bool
+        ensures { (i : ℕ) (p : CasePath) → result ≡ true → slice_get self.entry.paths.now i ≡ Some p
+            → slice_get (path_of p) level ≡ Some i }
+    {
+        for i in 0..self.len() {
+            let Some(path) = self.paths.get(i) else {
+                return false;
+            };
+            if !path.has(level, i) {
+                return false;
+            }
+        }
+        true
+    }
+
+    /// A path for each case in each of so many rounds, with its number at a level.
+    pub(crate) fn rounds(self, alloc: Global, level: usize, count: usize) -> Result<Vec<Path>, Stop>
+        ensures length { IfOk result
+            (λ r. length r.items ≡ length self.entry.paths.now * count) }
+        ensures paths { (i j : ℕ) (p : CasePath) → slice_get self.entry.paths.now i ≡ Some p
+            → j < count → IfOk result
+            (λ r. HasReached r.items p level (i + length self.entry.paths.now * j)) }
+    {
+        let all = self.len().checked_mul(count).ok_or(Stop::Alone)?;
+        let mut paths = Vec::with_capacity(alloc, all)?;
+        for l in 0..all {
+            let path = self.paths.get(turn(l, self.len())).ok_or(Stop::Alone)?;
+            let path = path.reaching(level, l).ok_or(Stop::Alone)?;
+            paths.push(path)?;
+        }
+        Ok(paths)
+    }
+}

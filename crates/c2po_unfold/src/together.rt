@@ -1,0 +1,568 @@
+//! A walk over an expression in several cases at once.
+//!
+//! A quantifier over a set that is the same in all cases goes over its members in each of them. One over sets that differ goes
+//! over the members of the first case, then over those of the second one, and so on.
+
+ghost use Rattle.std.specs.Prelude.{◌≡◌, ◌+◌, ◌*◌, ◌<◌, ◌/◌, ◌%◌, ◌≤◌, ℕ, ◌++◌, ◌∷◌, [], List as Seq, Some, IfOk, IfErr, IfSome, OnOk, length, slice_get};
+ghost use Rattle.mltl_base.specs.declared.operators.LogicOp.{LogicOp as Connective};
+ghost use Rattle.c2po_unfold.specs.declared.fault.UnfoldFault.TheVariants.{Memory};
+ghost use Rattle.c2po_unfold.specs.declared.operators.BinaryOp.TheVariants.{Logic};
+ghost use Rattle.c2po_unfold.specs.declared.scope.Head.TheVariants.{Held as HeldSet};
+ghost use Rattle.c2po_unfold.specs.declared.summary.Summary.{Summary as Found};
+ghost use Rattle.c2po_unfold.specs.declared.values.Stored.{Stored as Held};
+ghost use Rattle.c2po_unfold.specs.Ahead.{AreListed, GatheredFor, HasMember, IsAhead, IsAheadIn, IsListed, IsOpenAhead, KnownFor, RowsLead, known_at};
+ghost use Rattle.c2po_unfold.specs.Bodies.{MeetsBodyIn};
+ghost use Rattle.c2po_unfold.specs.Cases.{IsVaried, chosen, path_of};
+ghost use Rattle.c2po_unfold.specs.Covering.{Mode};
+ghost use Rattle.c2po_unfold.specs.Environment.{Env, value_in};
+ghost use Rattle.c2po_unfold.specs.Heads.{HeadsIn, HoldMembers};
+ghost use Rattle.c2po_unfold.specs.Holding.{Holds};
+ghost use Rattle.c2po_unfold.specs.Operators.{binary_value, unary_value};
+ghost use Rattle.c2po_unfold.specs.Resolving.{IsBound, bodies_of, resolved_bodies, resolved_body, resolved_value};
+ghost use Rattle.c2po_unfold.specs.Scopes.{MeetsIn, names_of};
+ghost use Rattle.c2po_unfold.specs.Summaries.{IsSummary};
+ghost use Rattle.c2po_unfold.specs.Values.{Value, connected_all, counted, members as members_of};
+ghost use Rattle.c2po_unfold.specs.declared.path.Path.{Path as CasePath};
+
+use crate::counting::Counting;
+use crate::each::{Each, Stop};
+use crate::fact::Fact;
+use crate::fault::deeper;
+use crate::known::Ahead;
+use crate::operators::{BinaryOp, UnaryOp};
+use crate::path::{Cases, Path};
+use crate::resolved::{Quantified, Resolved, Row};
+use crate::room::Room;
+use crate::scope::{Choice, Head, Led, Member, Scope, Site};
+use crate::summary::Summary;
+use crate::values::Stored;
+use crate::{UnfoldFault, Unfolding};
+use mltl_base::{CountOp, LogicOp, Name};
+use std::alloc::{AllocError, AllocFailed, Global};
+
+/// How many cases are looked at together at most.
+pub(crate) const TOGETHER: usize = 64;
+
+/// The number of cases up to which two members or more are looked at together.
+const FEW: usize = TOGETHER / 2;
+
+/// The members from one on that are looked at together, where there are `count` cases already.
+fn group<T>(members: &[T], start: usize, count: usize) -> Option<&[T]>
+    ensures { IfSome result (λ some. (j : ℕ) (x : T) → slice_get some.now j ≡ Some x
+        → slice_get members.now (start + j) ≡ Some x) }
+{
+    let rest = members.get(start..)?;
+    let most = TOGETHER.checked_div(count)?.max(1);
+    match rest.get(..most) {
+        Some(some) => Some(some),
+        None => Some(rest),
+    }
+}
+
+/// Whether there is a member after this one.
+fn is_followed<T>(members: &[T], i: usize) -> bool {
+    matches!(members.get(i..), Some([_, _, ..]))
+}
+
+/// How often all of `count` cases are before a case.
+#[inline(always)]
+fn round(i: usize, count: usize) -> usize
+    requires { 0 < count }
+    ensures { result ≡ i / count }
+{
+    if count == 1 { i } else { i / count }
+}
+
+impl Unfolding {
+    /// What is known of the bodies of a quantifier from member `i` of its set on, up to [`TOGETHER`] of them; nothing where
+    /// each has to be checked by itself.
+    pub(crate) fn bodies_ahead(
+        &self,
+        at: Site<'_>,
+        bodies: Quantified<'_>,
+        set: &Head<'_>,
+        i: usize,
+        nested: bool,
+        room: Room,
+    ) -> Result<Option<Ahead>, UnfoldFault>
+        ensures ahead { IfOk result (λ r. IfSome r
+            (IsAhead self.now at.entry.scope.now bodies.entry set.now)) }
+        ensures memory { IfErr result (λ why. why ≡ Memory) }
+    {
+        if self.member_count(set) < 2 || self.is_written(at.depth, set, i) {
+            return Ok(None);
+        }
+        let cases = Cases {
+            paths: &[Path::start()],
+            nested,
+        };
+        match self.bodies_from(at, cases, bodies, set, i, room) {
+            Ok(ahead) => Ok(Some(ahead)),
+            Err(Stop::Alone) => Ok(None),
+            Err(Stop::Memory) => Err(UnfoldFault::Memory),
+        }
+    }
+
+    /// Whether a member of a set is a struct's value or a set that is written out, of which nothing is known together.
+    fn is_whole(&self, depth: u32, within: &Scope<'_>, members: &[Resolved], i: usize) -> bool {
+        match members.get(i) {
+            Some(e) => matches!(
+                self.head(depth, within, e),
+                Ok(Head::Struct(..) | Head::Set(..))
+            ),
+            None => false,
+        }
+    }
+
+    /// The same of a set that may be stored.
+    fn is_written(&self, depth: u32, set: &Head<'_>, i: usize) -> bool {
+        match *set {
+            Head::Set(within, _, members) => self.is_whole(depth, within, members, i),
+            _ => false,
+        }
+    }
+
+    /// What is known of an expression in each case, once for all cases where it is the same in all.
+    #[cycle(each)]
+    fn each(&self, at: Site<'_>, cases: Cases<'_>, e: &Resolved, room: Room) -> Result<Each, Stop>
+        ensures { (m : Mode) (base env : Env) (i : ℕ) (p : CasePath)
+            → slice_get cases.entry.paths.now i ≡ Some p
+            → MeetsIn (chosen m (path_of p)) self.now base at.entry.scope.now env e.now
+            → IfOk result (λ r. KnownFor m r i (resolved_value e.now env)) }
+    {
+        let found = self.each_of(at, cases, e, room)?;
+        match found.shared() {
+            Some(summary) => Ok(Each::Same(summary)),
+            None => Ok(found),
+        }
+    }
+
+    /// What is known of an expression in each case.
+    #[cycle(each)]
+    fn each_of(
+        &self,
+        at: Site<'_>,
+        cases: Cases<'_>,
+        e: &Resolved,
+        room: Room,
+    ) -> Result<Each, Stop>
+        ensures { (m : Mode) (base env : Env) (i : ℕ) (p : CasePath)
+            → slice_get cases.entry.paths.now i ≡ Some p
+            → MeetsIn (chosen m (path_of p)) self.now base at.entry.scope.now env e.now
+            → IfOk result (λ r. KnownFor m r i (resolved_value e.now env)) }
+    {
+        let at = Site {
+            depth: deeper(at.depth)?,
+            ..at
+        };
+        match e {
+            Resolved::Number(n) => Ok(Each::Same(Summary::token(Fact::constant(*n), room)?)),
+            Resolved::Truth(_) => Ok(Each::Same(Summary::token(Fact::truth(), room)?)),
+            Resolved::Unary(op, a) => {
+                let a = self.each(at, cases, a, room)?;
+                Each::over_one(self.alloc, *op, &a, cases.len(), room)
+            }
+            Resolved::Binary(op, a, b) => {
+                let a = self.each(at, cases, a, room)?;
+                let b = self.each(at, cases, b, room)?;
+                Each::over_two(self.alloc, *op, &a, &b, cases.len(), room)
+            }
+            Resolved::Joined(op, name, set, body) => {
+                self.each_joined(at, cases, *op, Quantified { name, set, body }, room)
+            }
+            Resolved::Counted(op, number, name, set, body) => {
+                let bodies = Quantified { name, set, body };
+                self.each_counted(at, cases, *op, *number, bodies, room)
+            }
+            Resolved::Column(_, name, rows) => {
+                self.each_column(at, cases, e, name, rows.as_slice(), room)
+            }
+            _ => self.each_head(at, cases, e, room),
+        }
+    }
+
+    /// What is known in each case of what an expression leads to.
+    #[cycle(each)]
+    fn each_head(
+        &self,
+        at: Site<'_>,
+        cases: Cases<'_>,
+        e: &Resolved,
+        room: Room,
+    ) -> Result<Each, Stop>
+        ensures { (m : Mode) (base env : Env) (i : ℕ) (p : CasePath)
+            → slice_get cases.entry.paths.now i ≡ Some p
+            → MeetsIn (chosen m (path_of p)) self.now base at.entry.scope.now env e.now
+            → IfOk result (λ r. KnownFor m r i (resolved_value e.now env)) }
+    {
+        match self.head(at.depth, at.scope, e)? {
+            Head::Held(stored) => Ok(Each::Same(self.held(stored))),
+            Head::Covered(summary) => Ok(Each::Same(*summary)),
+            Head::Varied(choice) if choice.members.is_empty() => self.each_traced(at, cases, e),
+            Head::Varied(choice) => self.each_member(choice, cases),
+            Head::Leaf(scope, e) => self.each(Site { scope, ..at }, cases, e, room),
+            Head::Nothing(..) | Head::Struct(..) | Head::Set(..) => Err(Stop::Alone),
+        }
+    }
+
+    /// What is known in each case of what a column has, or of what its expression leads to.
+    #[cycle(each)]
+    fn each_column(
+        &self,
+        at: Site<'_>,
+        cases: Cases<'_>,
+        e: &Resolved,
+        name: &Name,
+        rows: &[Row],
+        room: Room,
+    ) -> Result<Each, Stop>
+        ensures { (m : Mode) (base env : Env) (i : ℕ) (p : CasePath)
+            → slice_get cases.entry.paths.now i ≡ Some p
+            → MeetsIn (chosen m (path_of p)) self.now base at.entry.scope.now env e.now
+            → IsBound (names_of at.entry.scope.now) name.now
+            → RowsLead self.now rows.now (value_in (env name.now)) (resolved_value e.now env)
+            → IfOk result (λ r. KnownFor m r i (resolved_value e.now env)) }
+    {
+        match at.scope.variable(name) {
+            Led::Varied(choice) => self.each_row(choice, rows, cases),
+            _ => self.each_head(at, cases, e, room),
+        }
+    }
+
+    /// Members for cases: each of these in as many cases as there are, one member after the other.
+    fn varied(&self, members: &[Stored], start: usize, count: usize) -> Result<Vec<Member>, Stop>
+        ensures length { IfOk result (λ r. length r.items ≡ count * length members.now) }
+        ensures members { (m : Mode) (i j : ℕ) (s : Held) (v : Value) → i < count
+            → slice_get members.now j ≡ Some s → Holds self.now s v
+            → IfOk result (λ r. HasMember m self.now r.items (i + count * j) v) }
+    {
+        let all = count.checked_mul(members.len()).ok_or(Stop::Alone)?;
+        let mut varied = Vec::with_capacity(self.alloc, all)?;
+        for i in 0..all {
+            let j = round(i, count);
+            let stored = members.get(j).ok_or(Stop::Alone)?;
+            let index = start.checked_add(j).ok_or(Stop::Alone)?;
+            varied.push(Member {
+                summary: self.held(*stored),
+                stored: Some(*stored),
+                index,
+            })?;
+        }
+        Ok(varied)
+    }
+
+    /// What is known in each case of the member that it chooses.
+    fn each_member(&self, choice: Choice<'_>, cases: Cases<'_>) -> Result<Each, Stop>
+        ensures { (m : Mode) (i : ℕ) (p : CasePath) (v : Value)
+            → slice_get cases.entry.paths.now i ≡ Some p
+            → IsVaried (chosen m (path_of p)) self.now choice.entry v
+            → IfOk result (λ r. KnownFor m r i v) }
+    {
+        let mut all = Vec::with_capacity(self.alloc, cases.len())?;
+        for path in cases.paths {
+            let member = choice.member(path).ok_or(Stop::Alone)?;
+            all.push(member.summary)?;
+        }
+        Ok(Each::Own(all))
+    }
+
+    /// What is known in each case of what a column has for the member that it chooses.
+    fn each_row(&self, choice: Choice<'_>, rows: &[Row], cases: Cases<'_>) -> Result<Each, Stop>
+        ensures { (m : Mode) (i : ℕ) (p : CasePath) (w v : Value)
+            → slice_get cases.entry.paths.now i ≡ Some p
+            → IsVaried (chosen m (path_of p)) self.now choice.entry w
+            → RowsLead self.now rows.now w v → IfOk result (λ r. KnownFor m r i v) }
+    {
+        let mut all = Vec::with_capacity(self.alloc, cases.len())?;
+        for path in cases.paths {
+            let found = choice.found(path, rows).ok_or(Stop::Alone)?;
+            all.push(self.held(found))?;
+        }
+        Ok(Each::Own(all))
+    }
+
+    /// What is known in each case of the bodies of a quantifier, joined by an operator.
+    #[cycle(each)]
+    fn each_joined(
+        &self,
+        at: Site<'_>,
+        cases: Cases<'_>,
+        op: LogicOp,
+        bodies: Quantified<'_>,
+        room: Room,
+    ) -> Result<Each, Stop>
+        ensures { (m : Mode) (base env : Env) (i : ℕ) (p : CasePath)
+            → slice_get cases.entry.paths.now i ≡ Some p
+            → MeetsIn (chosen m (path_of p)) self.now base at.entry.scope.now env bodies.entry.set.now
+            → MeetsBodyIn (chosen m (path_of p)) self.now base at.entry.scope.now env bodies.entry
+            → IfOk result (λ r. KnownFor m r i (connected_all op (bodies_of bodies.entry env))) }
+    {
+        if !cases.nested {
+            return Err(Stop::Alone);
+        }
+        let set = self.head(at.depth, at.scope, bodies.set)?;
+        if let Head::Varied(_) = set {
+            let sets = self.traced(at, cases, bodies.set)?;
+            return self.joined_sets(at, cases, op, bodies, sets.as_slice(), room);
+        }
+        let count = self.shared_count(&set).ok_or(Stop::Alone)?;
+        if count == 0 {
+            return Err(Stop::Alone);
+        }
+        let n = cases.len();
+        let mut ahead = self.bodies_from(at, cases, bodies, &set, 0, room)?;
+        let mut all = Each::formulas(self.alloc, &ahead.each, n)?;
+        for i in 1..count {
+            if i - ahead.start >= ahead.count {
+                ahead = self.bodies_from(at, cases, bodies, &set, i, room)?;
+            }
+            let from = n.checked_mul(i - ahead.start).ok_or(Stop::Alone)?;
+            all = Each::joined(self.alloc, op, &all, &ahead.each, from, n, room)?;
+        }
+        Ok(all)
+    }
+
+    /// What is known in each case of a counting quantifier.
+    #[cycle(each)]
+    fn each_counted(
+        &self,
+        at: Site<'_>,
+        cases: Cases<'_>,
+        op: CountOp,
+        number: u64,
+        bodies: Quantified<'_>,
+        room: Room,
+    ) -> Result<Each, Stop>
+        ensures { (m : Mode) (base env : Env) (i : ℕ) (p : CasePath)
+            → slice_get cases.entry.paths.now i ≡ Some p
+            → MeetsIn (chosen m (path_of p)) self.now base at.entry.scope.now env bodies.entry.set.now
+            → MeetsBodyIn (chosen m (path_of p)) self.now base at.entry.scope.now env bodies.entry
+            → IfOk result (λ r. KnownFor m r i (counted op number (bodies_of bodies.entry env))) }
+    {
+        if !cases.nested {
+            return Err(Stop::Alone);
+        }
+        let set = self.head(at.depth, at.scope, bodies.set)?;
+        if let Head::Varied(_) = set {
+            let sets = self.traced(at, cases, bodies.set)?;
+            return self.counted_over(at, cases, op, number, bodies, sets.as_slice(), room);
+        }
+        let members = self.shared_count(&set).ok_or(Stop::Alone)?;
+        if members == 0 {
+            return Err(Stop::Alone);
+        }
+        let all = self.each_gathered(at, cases, bodies, &set, members, room)?;
+        let counting = Counting {
+            op,
+            number,
+            members,
+        };
+        Each::counted(self.alloc, counting, &all, cases.len(), room)
+    }
+
+    /// What is known in each case of the first `members` bodies of a quantifier together.
+    #[cycle(each)]
+    fn each_gathered(
+        &self,
+        at: Site<'_>,
+        cases: Cases<'_>,
+        bodies: Quantified<'_>,
+        set: &Head<'_>,
+        members: usize,
+        room: Room,
+    ) -> Result<Each, Stop>
+        ensures { (m : Mode) (base env : Env) (i : ℕ) (p : CasePath) (s : Value)
+            → slice_get cases.entry.paths.now i ≡ Some p
+            → MeetsBodyIn (chosen m (path_of p)) self.now base at.entry.scope.now env bodies.entry
+            → HeadsIn (chosen m (path_of p)) self.now base set.now s → members ≡ length (members_of s)
+            → IfOk result (λ r. GatheredFor m r i (resolved_bodies bodies.entry env s)) }
+    {
+        let n = cases.len();
+        let mut ahead = Ahead::none();
+        let mut all = Each::Same(Summary::none());
+        for i in 0..members {
+            if i - ahead.start >= ahead.count {
+                ahead = self.bodies_from(at, cases, bodies, set, i, room)?;
+            }
+            let from = n.checked_mul(i - ahead.start).ok_or(Stop::Alone)?;
+            all = Each::gathered(self.alloc, &all, &ahead.each, from, n, room)?;
+        }
+        Ok(all)
+    }
+
+    /// What is known in each case of the bodies of a quantifier from member `i` of its set on: of several together where
+    /// these are stored and cases are few, else of one.
+    #[cycle(each)]
+    fn bodies_from(
+        &self,
+        at: Site<'_>,
+        cases: Cases<'_>,
+        bodies: Quantified<'_>,
+        set: &Head<'_>,
+        i: usize,
+        room: Room,
+    ) -> Result<Ahead, Stop>
+        ensures ahead { IfOk result
+            (IsAheadIn self.now at.entry.scope.now bodies.entry set.now cases.entry.paths.now) }
+        ensures start { IfOk result (λ r. r.start ≡ i) }
+        ensures some { IfOk result (λ r. 0 < r.count) }
+    {
+        match *set {
+            Head::Held(stored) if cases.len() <= FEW && is_followed(self.held_members(stored), i) =>
+                { self.held_bodies(at, cases, bodies, stored, i, room) }
+            Head::Set(within, _, members)
+                if cases.len() <= FEW
+                    && is_followed(members, i)
+                    && !self.is_whole(at.depth, within, members, i) => {
+                self.open_bodies(at, cases, bodies, within, members, i, room)
+            }
+            _ => self.one_body(at, cases, bodies, set, i, room),
+        }
+    }
+
+    /// What is known in each case of the body of a quantifier where its variable is member `i` of its set.
+    #[cycle(each)]
+    fn one_body(
+        &self,
+        at: Site<'_>,
+        cases: Cases<'_>,
+        bodies: Quantified<'_>,
+        set: &Head<'_>,
+        i: usize,
+        room: Room,
+    ) -> Result<Ahead, Stop>
+        ensures ahead { IfOk result
+            (IsAheadIn self.now at.entry.scope.now bodies.entry set.now cases.entry.paths.now) }
+        ensures start { IfOk result (λ r. r.start ≡ i) }
+        ensures some { IfOk result (λ r. 0 < r.count) }
+    {
+        let head = self.member(at.depth, set, i)?;
+        let scope = &Scope::bound(&*bodies.name, head, i, &*at.scope);
+        let each = self.each(Site { scope, ..at }, cases, bodies.body, room)?;
+        Ok(Ahead {
+            start: i,
+            count: 1,
+            each,
+        })
+    }
+
+    /// What is known in each case of the bodies of a quantifier from member `i` of a stored set on, together.
+    #[cycle(each)]
+    fn held_bodies(
+        &self,
+        at: Site<'_>,
+        cases: Cases<'_>,
+        bodies: Quantified<'_>,
+        set: Stored,
+        i: usize,
+        room: Room,
+    ) -> Result<Ahead, Stop>
+        ensures ahead { IfOk result
+            (IsAheadIn self.now at.entry.scope.now bodies.entry (HeldSet set) cases.entry.paths.now) }
+        ensures start { IfOk result (λ r. r.start ≡ i) }
+        ensures some { IfOk result (λ r. 0 < r.count) }
+    {
+        let n = cases.len();
+        let members = group(self.held_members(set), i, n).ok_or(Stop::Alone)?;
+        if members.is_empty() {
+            return Err(Stop::Alone);
+        }
+        let turns = self.varied(members, i, n)?;
+        let level = cases.level();
+        let paths = cases.rounds(self.alloc, level, members.len())?;
+        let within = cases.along(paths.as_slice());
+        let each = self.each_body(at, within, bodies, turns.as_slice(), level, room)?;
+        Ok(Ahead {
+            start: i,
+            count: members.len(),
+            each,
+        })
+    }
+
+    /// What is known in each case of the body of a quantifier where its variable is the member with the case's number at a
+    /// level.
+    #[cycle(each)]
+    pub(crate) fn each_body(
+        &self,
+        at: Site<'_>,
+        cases: Cases<'_>,
+        bodies: Quantified<'_>,
+        members: &[Member],
+        level: usize,
+        room: Room,
+    ) -> Result<Each, Stop>
+        ensures { (m : Mode) (base env : Env) (i : ℕ) (p : CasePath) (v : Value)
+            → slice_get cases.entry.paths.now i ≡ Some p → slice_get (path_of p) level ≡ Some i
+            → MeetsBodyIn (chosen m (path_of p)) self.now base at.entry.scope.now env bodies.entry
+            → HasMember m self.now members.now i v
+            → IfOk result (λ r. KnownFor m r i (resolved_body bodies.entry env v)) }
+    {
+        let choice = Choice {
+            members: &*members,
+            level,
+        };
+        let scope = &Scope::Varied {
+            name: &*bodies.name,
+            choice,
+            outer: &*at.scope,
+        };
+        self.each(Site { scope, ..at }, cases, bodies.body, room)
+    }
+
+    /// What is known in each case of the bodies of a quantifier from member `i` of a set on that isn't stored, together.
+    #[cycle(each)]
+    fn open_bodies(
+        &self,
+        at: Site<'_>,
+        cases: Cases<'_>,
+        bodies: Quantified<'_>,
+        within: &Scope<'_>,
+        set: &[Resolved],
+        i: usize,
+        room: Room,
+    ) -> Result<Ahead, Stop>
+        ensures ahead { IfOk result (IsOpenAhead self.now at.entry.scope.now within.now
+            bodies.entry set.now cases.entry.paths.now) }
+        ensures start { IfOk result (λ r. r.start ≡ i) }
+        ensures some { IfOk result (λ r. 0 < r.count) }
+    {
+        let members = group(set, i, cases.len()).ok_or(Stop::Alone)?;
+        if members.is_empty() {
+            return Err(Stop::Alone);
+        }
+        let site = Site {
+            depth: at.depth,
+            scope: &*within,
+        };
+        let turns = self.listed(site, cases, members, room)?;
+        let level = cases.level();
+        let paths = cases.rounds(self.alloc, level, members.len())?;
+        let within = cases.along(paths.as_slice());
+        let each = self.each_body(at, within, bodies, turns.as_slice(), level, room)?;
+        Ok(Ahead {
+            start: i,
+            count: members.len(),
+            each,
+        })
+    }
+
+    /// Members for cases: what is known of each of these expressions in all cases, one expression after the other.
+    #[cycle(each)]
+    fn listed(
+        &self,
+        at: Site<'_>,
+        cases: Cases<'_>,
+        es: &[Resolved],
+        room: Room,
+    ) -> Result<Vec<Member>, Stop>
+        ensures { IfOk result (λ r. AreListed self.now at.entry.scope.now cases.entry.paths.now
+            es.now (length es.now) r.items) }
+    {
+        let mut all = Vec::new(self.alloc);
+        for e in es {
+            let each = self.each(at, cases, e, room)?;
+            each.list(cases.len(), &mut all)?;
+        }
+        Ok(all)
+    }
+}

@@ -1,0 +1,158 @@
+//! The stored values that expressions lead to, in several cases at once.
+
+ghost use Rattle.std.specs.Prelude.{◌≡◌, ℕ, Some, IfOk, IfSome, slice_get};
+ghost use Rattle.c2po_unfold.specs.declared.path.Path.{Path as CasePath};
+ghost use Rattle.c2po_unfold.specs.Ahead.{HoldsFor, KnownFor, RowsLead};
+ghost use Rattle.c2po_unfold.specs.Cases.{Case, IsVaried, chosen, path_of};
+ghost use Rattle.c2po_unfold.specs.Covering.{Mode};
+ghost use Rattle.c2po_unfold.specs.Environment.{Env, fields_in};
+ghost use Rattle.c2po_unfold.specs.Holding.{Holds};
+ghost use Rattle.c2po_unfold.specs.Resolving.{IsPlace, resolved_value};
+ghost use Rattle.c2po_unfold.specs.Scopes.{FitsIn, MeetsIn, names_of};
+ghost use Rattle.c2po_unfold.specs.Values.{Value, picked};
+
+use crate::Unfolding;
+use crate::each::{Each, Stop};
+use crate::fault::deeper;
+use crate::path::Cases;
+use crate::resolved::{Hint, Resolved, Row};
+use crate::scope::{Choice, Led, Scope, Site};
+use crate::values::Stored;
+use mltl_base::Name;
+
+impl Unfolding {
+    /// What is known in each case of an expression that leads to a stored value.
+    pub(crate) fn each_traced(
+        &self,
+        at: Site<'_>,
+        cases: Cases<'_>,
+        e: &Resolved,
+    ) -> Result<Each, Stop>
+        ensures { (m : Mode) (base env : Env) (i : ℕ) (p : CasePath)
+            → slice_get cases.entry.paths.now i ≡ Some p
+            → MeetsIn (chosen m (path_of p)) self.now base at.entry.scope.now env e.now
+            → IfOk result (λ r. KnownFor m r i (resolved_value e.now env)) }
+    {
+        let stored = self.traced(at, cases, e)?;
+        self.each_held(stored.as_slice())
+    }
+
+    /// What is known of each of these values.
+    fn each_held(&self, values: &[Stored]) -> Result<Each, Stop>
+        ensures { (m : Mode) (i : ℕ) (v : Value) → HoldsFor self.now values.now i v
+            → IfOk result (λ r. KnownFor m r i v) }
+    {
+        let mut all = Vec::with_capacity(self.alloc, values.len())?;
+        for stored in values {
+            all.push(self.held(*stored))?;
+        }
+        Ok(Each::Own(all))
+    }
+
+    /// The stored value that an expression leads to in each case.
+    #[cycle(tracing)]
+    pub(crate) fn traced(
+        &self,
+        at: Site<'_>,
+        cases: Cases<'_>,
+        e: &Resolved,
+    ) -> Result<Vec<Stored>, Stop>
+        ensures { (m : Mode) (base env : Env) (i : ℕ) (p : CasePath)
+            → slice_get cases.entry.paths.now i ≡ Some p
+            → MeetsIn (chosen m (path_of p)) self.now base at.entry.scope.now env e.now
+            → IfOk result (λ r. HoldsFor self.now r.items i (resolved_value e.now env)) }
+    {
+        let at = Site {
+            depth: deeper(at.depth)?,
+            ..at
+        };
+        match e {
+            Resolved::Known(_, stored) | Resolved::Found(_, stored) => self.repeated(
+                *stored, cases,
+            ),
+            Resolved::Variable(name) => match at.scope.variable(name) {
+                Led::Varied(choice) => self.chosen(choice, cases),
+                Led::Held(stored, _) => self.repeated(stored, cases),
+                Led::Open(scope, e) => self.traced(Site { scope, ..at }, cases, e),
+                Led::Covered(_) | Led::Nowhere => Err(Stop::Alone),
+            },
+            Resolved::Column(e, name, rows) => match at.scope.variable(name) {
+                Led::Varied(choice) => self.found_in(choice, rows.as_slice(), cases),
+                _ => self.traced(at, cases, e),
+            },
+            Resolved::Part(whole, field, hint) => {
+                let wholes = self.traced(at, cases, whole)?;
+                self.parts_of(at.scope, wholes.as_slice(), field, hint)
+            }
+            _ => Err(Stop::Alone),
+        }
+    }
+
+    /// The same stored value in each case.
+    fn repeated(&self, stored: Stored, cases: Cases<'_>) -> Result<Vec<Stored>, Stop>
+        ensures { (i : ℕ) (p : CasePath) (v : Value) → slice_get cases.entry.paths.now i ≡ Some p
+            → Holds self.now stored v → IfOk result (λ r. HoldsFor self.now r.items i v) }
+    {
+        let mut all = Vec::with_capacity(self.alloc, cases.len())?;
+        for _path in cases.paths {
+            all.push(stored)?;
+        }
+        Ok(all)
+    }
+
+    /// The stored value that each case chooses.
+    fn chosen(&self, choice: Choice<'_>, cases: Cases<'_>) -> Result<Vec<Stored>, Stop>
+        ensures { (m : Mode) (i : ℕ) (p : CasePath) (v : Value)
+            → slice_get cases.entry.paths.now i ≡ Some p
+            → IsVaried (chosen m (path_of p)) self.now choice.entry v
+            → IfOk result (λ r. HoldsFor self.now r.items i v) }
+    {
+        let mut all = Vec::with_capacity(self.alloc, cases.len())?;
+        for path in cases.paths {
+            let member = choice.member(path).ok_or(Stop::Alone)?;
+            all.push(member.stored.ok_or(Stop::Alone)?)?;
+        }
+        Ok(all)
+    }
+
+    /// What a column has for the member that each case chooses.
+    fn found_in(
+        &self,
+        choice: Choice<'_>,
+        rows: &[Row],
+        cases: Cases<'_>,
+    ) -> Result<Vec<Stored>, Stop>
+        ensures { (m : Mode) (i : ℕ) (p : CasePath) (w v : Value)
+            → slice_get cases.entry.paths.now i ≡ Some p
+            → IsVaried (chosen m (path_of p)) self.now choice.entry w
+            → RowsLead self.now rows.now w v
+            → IfOk result (λ r. HoldsFor self.now r.items i v) }
+    {
+        let mut all = Vec::with_capacity(self.alloc, cases.len())?;
+        for path in cases.paths {
+            all.push(choice.found(path, rows).ok_or(Stop::Alone)?)?;
+        }
+        Ok(all)
+    }
+
+    /// The part of each of these values that a field names; another value is its own part.
+    fn parts_of(
+        &self,
+        scope: &Scope<'_>,
+        wholes: &[Stored],
+        field: &Name,
+        hint: &Hint,
+    ) -> Result<Vec<Stored>, Stop>
+        ensures { (c : Case) (base env : Env) (i : ℕ) (v : Value)
+            → FitsIn c self.now base scope.now env
+            → IsPlace base (names_of scope.now) field.now hint.now
+            → HoldsFor self.now wholes.now i v → IfOk result
+            (λ r. HoldsFor self.now r.items i (picked (λ y. fields_in (env y)) field.now v)) }
+    {
+        let mut all = Vec::with_capacity(self.alloc, wholes.len())?;
+        for whole in wholes {
+            all.push(self.held_part(scope, *whole, field, hint))?;
+        }
+        Ok(all)
+    }
+}
