@@ -16,7 +16,7 @@ use Rattle.mltl_base.specs.declared.program.Out.{Out}
 use Rattle.mltl_base.specs.declared.program.Out.TheVariants as out
 use Rattle.mltl_base.specs.declared.program.Program.{Program}
 use Rattle.mltl_base.specs.declared.program.StoredSignal.{StoredSignal}
-use Rattle.mltl_base.specs.Formula.{Core, ctrue, catom, cnot, cand, cuntil, csince}
+use Rattle.mltl_base.specs.Formula.{Core, catom}
 use Rattle.mltl_base.specs.Programs.{expressions}
 use Rattle.mltl_base.specs.Queues.{NamesInstructions, box_counts, boxes_of, queue_length, queue_lengths, slot_count, worst_delays}
 use Rattle.mltl_base.specs.Subformulas.{Asked, HasListsOf, IsGraphOf, formulas_of, all_cores, cores_for, subformulas, bz_expressions, bz_instruction, ft_instruction, pt_instruction, ft_list, pt_list}

@@ -8,7 +8,7 @@ use Rattle.std.proofs.lemmas.List.Sums.{list_all-from_AllPass}
 use Rattle.mltl_base.specs.declared.program.Out.{Out}
 use Rattle.mltl_base.specs.Programs.{out_name}
 use Rattle.mltl_base.proofs.Unfolding.{Each, each_from_all}
-use Rattle.c2po_ast.specs.ItemShape.{TypeShape, BodyShape, ItemShape, structure, input, define, formula, contract}
+use Rattle.c2po_ast.specs.ItemShape.{TypeShape, BodyShape, ItemShape, input}
 use Rattle.c2po_ast.specs.Names.{IsPlainName, ArePlain, IsPlainBody, ArePlainItems}
 use Rattle.mltl_base.specs.declared.signal.Signal.{Signal}
 use Rattle.c2po_types.specs.Signals.{is_bool, body_signals, signals_of}

@@ -4,11 +4,11 @@ use Rattle.std.proofs.Common.{ℕ, suc, Bool, true, false, List, [], ◌∷◌, 
 use Rattle.std.specs.Prelude.{All, ⊤}
 use Rattle.std.proofs.lemmas.List.Elements.{All-nil, All-cons, All-append}
 use Rattle.mltl_base.specs.declared.operators.LogicOp.{LogicOp}
-use Rattle.mltl_base.specs.declared.operators.LogicOp.TheVariants.{And, Or, Implies, Iff}
+use Rattle.mltl_base.specs.declared.operators.LogicOp.TheVariants.{And}
 use Rattle.mltl_base.specs.declared.operators.WindowOp.{WindowOp}
-use Rattle.mltl_base.specs.declared.operators.WindowOp.TheVariants.{F, G, O, H}
+use Rattle.mltl_base.specs.declared.operators.WindowOp.TheVariants.{F}
 use Rattle.mltl_base.specs.declared.operators.BetweenOp.{BetweenOp}
-use Rattle.mltl_base.specs.declared.operators.BetweenOp.TheVariants.{U, R, S}
+use Rattle.mltl_base.specs.declared.operators.BetweenOp.TheVariants.{U}
 use Rattle.mltl_base.specs.declared.signal.Signal.{Signal}
 use Rattle.mltl_base.specs.Atoms.{Term}
 use Rattle.mltl_base.specs.Formula.{Formula}

@@ -1,13 +1,13 @@
 -- Formulas without faults over signals of their kinds, once they stand over columns.
 
-use Rattle.std.proofs.Common.{◌≡◌, ℕ, Bool, true, false, Some, None, Ok, Err, List, slice_get, slice_index, refl, ap, ap₂, ◌∙◌}
-use Rattle.std.specs.Prelude.{ℤ, ⊤}
+use Rattle.std.proofs.Common.{◌≡◌, ℕ, Bool, true, false, Some, None, List, slice_get, slice_index, refl, ap, ap₂, ◌∙◌}
+use Rattle.std.specs.Prelude.{⊤}
 use Rattle.mltl_base.specs.declared.interval.Interval.{Interval}
 use Rattle.mltl_base.specs.declared.program.Program.{Program}
 use Rattle.mltl_base.specs.Atoms.{Term, column, constant, negative, plus, minus, times, quotient, remainder, Atom, is_true, equal, less, at_most, different, greater, at_least, term_over, atom_over}
 use Rattle.mltl_base.specs.Formula.{Formula, truth as always, falsity, atom, negation, conjunction, disjunction, implication, equivalence, finally, globally, until, release, once, historically, since, core_atom, formula_over}
 use Rattle.mltl_base.specs.Programs.{Expression, whole, truth}
-use Rattle.mltl_base.specs.Ranges.{Range, Ranged, range, negated, summed, lessened, multiplied, divided, left_over, over, over_both, over_divisor}
+use Rattle.mltl_base.specs.Ranges.{range, negated, summed, lessened, multiplied, divided, left_over, over, over_both, over_divisor}
 use Rattle.mltl_base.proofs.Unfolding.{Deep}
 use Rattle.c2po_nodes.specs.Faults.{why_none, or_later, term_fault, atom_fault, formula_fault}
 use Rattle.obs_verify.specs.WellFormed.{is_column_of}

@@ -13,8 +13,8 @@ use Rattle.mltl_base.specs.declared.interval.Part.{Part}
 use Rattle.mltl_base.specs.declared.interval.Part.TheVariants.{Bz, Ft, Pt}
 use Rattle.mltl_base.specs.declared.operators.BzOp.{BzOp}
 use Rattle.mltl_base.specs.declared.program.Program.{Program}
-use Rattle.mltl_base.specs.Atoms.{Term, column, constant, negative, plus, minus, times, quotient, remainder, Atom, is_true, equal, less, at_most, different, greater, at_least}
-use Rattle.mltl_base.specs.Formula.{Core, ctrue, catom, cnot, cand, cuntil, csince, core}
+use Rattle.mltl_base.specs.Atoms.{Term, column, constant, negative, Atom, is_true, different, greater, at_least}
+use Rattle.mltl_base.specs.Formula.{Core, catom, cnot, cand, cuntil, csince, core}
 use Rattle.mltl_base.specs.Programs.{Expression, whole, truth, expression_term, term_at, expressions}
 use Rattle.mltl_base.specs.Ranges.{Ranged, divisor, wide, range}
 use Rattle.mltl_base.specs.Reports.{Output, formula, contract}

@@ -10,7 +10,7 @@ use Rattle.mltl_base.specs.declared.report.Style.{Style}
 use Rattle.mltl_base.specs.declared.report.Word.{Word}
 use Rattle.mltl_base.specs.declared.signal.Signal.{Signal}
 use Rattle.mltl_base.specs.Atoms.{Row}
-use Rattle.mltl_base.specs.Formula.{Formula, truth, falsity, atom, negation, conjunction, disjunction, implication, equivalence, finally, globally, until, release, once, historically, since, formula_over, wpd}
+use Rattle.mltl_base.specs.Formula.{Formula, negation, conjunction, disjunction, implication, equivalence, finally, globally, until, release, once, historically, since, formula_over, wpd}
 use Rattle.mltl_base.specs.Kinds.{ReadsSignals, kinds_of}
 use Rattle.mltl_base.specs.Programs.{outputs, output_names}
 use Rattle.mltl_base.specs.Reports.{Output, formula, contract, words, word_of, status_of, meaning, delay, reports, told, IsRising, IsSettled}

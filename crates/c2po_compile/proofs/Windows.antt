@@ -10,7 +10,7 @@ use Rattle.mltl_base.specs.declared.operators.BetweenOp.TheVariants as between
 use Rattle.mltl_base.specs.Formula.{Formula}
 use Rattle.mltl_base.proofs.Unfolding.{Each, all_push}
 use Rattle.c2po_nodes.specs.declared.nodes.Plain.{Plain}
-use Rattle.c2po_nodes.specs.declared.nodes.Plain.TheVariants.{Truth, Flag, Number, Signal, Minus, Arith, Compare, Not, Logic, Window, Between}
+use Rattle.c2po_nodes.specs.declared.nodes.Plain.TheVariants.{Truth, Not, Logic, Window, Between}
 use Rattle.c2po_nodes.specs.Nodes.{Tree, number, formula, node_formula, tree_of, trees, IsBounded, IsFormed, AreSound}
 use Rattle.c2po_nodes.proofs.Pushing.{trees_more}
 use Rattle.c2po_compile.proofs.Cores.{Throughout}

@@ -36,7 +36,27 @@ pub fn back(alloc: Global, spec: &TypedSpec, columns: &Columns) -> Result<Checke
     ensures names { IfOk result NamesFit }
 {
     let expanded = expand(alloc, spec)?;
-    let checked = built(alloc, &expanded, spec, columns)?;
+    back_of(alloc, &expanded, spec, columns)
+}
+
+/// The image of a specification that is unfolded. The errors are those of [`back`].
+pub(crate) fn back_of(
+    alloc: Global,
+    expanded: &Expanded,
+    spec: &TypedSpec,
+    columns: &Columns,
+) -> Result<Checked, CompileFault>
+    requires columns { AreColumnsFor (length (declared (spec_shape spec.now))) columns.now }
+    requires unfolded { IsUnfolded (declared (spec_shape spec.now)) expanded.now }
+    requires outputs { asked expanded.now ≡ outputs_of (spec_shape spec.now) }
+    ensures image { IfOk result (λ checked. checked
+        ≡ image columns.now (declared (spec_shape spec.now)) (outputs_of (spec_shape spec.now))) }
+    ensures within { OnOk result (limit_over columns.now (spec_shape spec.now) ≡ None) }
+    ensures refused { IfErr result
+        (IsFirstRefusal (limit_over columns.now (spec_shape spec.now))) }
+    ensures names { IfOk result NamesFit }
+{
+    let checked = built(alloc, expanded, spec, columns)?;
     Ok(checked)
 }
 

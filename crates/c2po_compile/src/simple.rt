@@ -10,7 +10,7 @@ ghost use Rattle.c2po_compile.specs.Compiled.{limit_over};
 ghost use Rattle.c2po_compile.specs.Image.{AreColumnsFor};
 ghost use Rattle.c2po_compile.specs.Simplified.{simple_image, slots_in};
 
-use crate::program::{back, built};
+use crate::program::{back_of, built};
 use crate::{BuildFault, CompileFault};
 use c2po_types::TypedSpec;
 use delay_sizes::slot_count;
@@ -54,8 +54,8 @@ pub fn back_simple(
         (IsFirstRefusal (limit_over columns.now (spec_shape spec.now))) }
     ensures names { IfOk result NamesFit }
 {
-    let plain = back(alloc, spec, columns)?;
     let unfolded = expand(alloc, spec)?;
+    let plain = back_of(alloc, &unfolded, spec, columns)?;
     let simple = simplify(alloc, &unfolded)?;
     drop(unfolded);
     let made = built(alloc, &simple, spec, columns);

@@ -1,5 +1,5 @@
 -- What the check of all items comes to.
-use Rattle.std.proofs.Common.{◌≡◌, ◌≢◌, ℕ, suc, ◌+◌, ◌<◌, ◌≤◌, ◌^◌, List, [], map, length, drop, get_or, None, Some, Ok, refl, sym, ap, subst, ◌∙◌}
+use Rattle.std.proofs.Common.{◌≡◌, ◌≢◌, ℕ, ◌+◌, ◌<◌, ◌≤◌, List, map, length, drop, get_or, None, Some, Ok, refl, sym, ap, ◌∙◌}
 use Rattle.std.proofs.Math.ListN.{drop_of_length-le}
 use Rattle.std.proofs.Math.Numerals.{suc-eq-add-one}
 use Rattle.c2po_ast.specs.ItemShape.{ItemShape, item_shape}

@@ -1,5 +1,6 @@
 pub mod Asking
 pub mod Gates
+pub mod Finding
 pub mod Growing
 pub mod Heading
 pub mod Joining

@@ -1,6 +1,7 @@
 pub mod Counts
 pub mod Heads
 pub mod Light
+pub mod Meanings
 pub mod Names
 pub mod Nodes
 pub mod Unfolded

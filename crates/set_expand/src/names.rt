@@ -10,11 +10,12 @@ ghost use Rattle.set_expand.specs.Heads.{NamedBelow, named_meaning};
 ghost use Rattle.set_expand.specs.Nodes.{HaveNodes, IsKept, MadeAs, NamedKept};
 ghost use Rattle.set_expand.specs.Names.{EntryBelow, HasFields, IsEarly, SignalsBelow, env_now, env_of, meaning, with_name};
 
+use crate::meanings::Meanings;
 use crate::nodes::Made;
 use crate::scope::{Named, Scope};
 use c2po_ast::{Expr, FieldDecl, field_names};
 use c2po_unfold::fields::Fields;
-use mltl_base::{List, Name, NameTable};
+use mltl_base::{List, Name};
 use std::alloc::{AllocError, Global};
 use std::marker::Model;
 
@@ -39,7 +40,7 @@ pub struct Declared<'a> {
 /// The names of a specification in the order of declaration, which contracts see as a table of these.
 #[derive(Drop)]
 pub struct Names<'a> {
-    table: NameTable<Declared<'a>>,
+    table: Meanings<'a>,
     structs: List<Fields>,
 }
 
@@ -62,7 +63,7 @@ impl<'a> Model for Names<'a> {
 
 /// Puts a name after the others, unless it is there.
 fn put<'a>(
-    table: &mut NameTable<Declared<'a>>,
+    table: &mut Meanings<'a>,
     alloc: Global,
     name: &Name,
     entry: Entry<'a>,
@@ -83,7 +84,7 @@ impl<'a> Names<'a> {
         ensures { result ≡ [] }
     {
         Names {
-            table: NameTable::new(alloc),
+            table: Meanings::new(alloc),
             structs: List::new(alloc),
         }
     }

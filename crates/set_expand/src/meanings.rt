@@ -1,0 +1,142 @@
+//! The names of a specification with their meanings.
+
+ghost use Rattle.std.specs.Prelude.{◌≡◌, ◌++◌, ◌∷◌, [], None, Some, IfSome, length, OnOk};
+ghost use Rattle.mltl_base.specs.Tables.{entry_of, is_named};
+
+use crate::names::Declared;
+use mltl_base::{List, Name, NameTable};
+use std::alloc::{AllocError, Global};
+use std::marker::Model;
+use std::mem;
+
+/// The number of places among which a name has one by its bytes.
+const PLACES: usize = 16_384;
+
+/// A name, and the number of names that were added before it.
+#[derive(Drop)]
+pub struct Numbered {
+    pub name: Name,
+    pub number: usize,
+}
+
+/// Names with their meanings, which contracts see as a table. Most names are found without a search, at the place that
+/// their bytes give: chains of picked fields look up two names for each field.
+#[derive(Drop)]
+pub struct Meanings<'a> {
+    table: NameTable<Declared<'a>>,
+    names: List<Numbered>,
+    /// At each place the index of the last name that has this place.
+    places: Vec<u32>,
+}
+
+impl<'a> Model for Meanings<'a> {
+    ghost use Rattle.mltl_base.specs.Tables.{Table};
+    ghost use Rattle.c2po_ast.specs.contracts.item.TypeTree as types;
+    ghost use Rattle.c2po_ast.specs.contracts.tree.Expr as exprs;
+    ghost use Rattle.set_expand.specs.declared.names.Declared.{Declared as Meaning};
+    ghost use Rattle.set_expand.specs.Meanings.{ArePlaced};
+    ghost use Rattle.std.specs.Coded.{codes};
+
+    ghost Value = { Table Meaning };
+
+    ghost coded = { Prim.hlevel (codes, types.the_row.coded, exprs.the_row.coded) };
+
+    ghost view = { λ meanings. meanings.table };
+
+    ghost invariant = { λ meanings. ArePlaced meanings.names meanings.table };
+}
+
+/// The place that the bytes of a name give.
+fn place_of(name: &Name) -> usize {
+    let mut sum: u32 = 0;
+    for byte in name.bytes() {
+        sum = sum.wrapping_mul(31).wrapping_add(u32::from(*byte));
+    }
+    sum as usize % PLACES
+}
+
+/// Writes the index of a name at its place. It has no part in what names mean.
+fn mark(places: &mut Vec<u32>, alloc: Global, name: &Name, index: u32) -> Result<(), AllocError> {
+    if places.is_empty() {
+        *places = vec![in alloc; 0; PLACES]?;
+    }
+    if let Some(last) = places.get_mut(place_of(name)) {
+        *last = index;
+    }
+    Ok(())
+}
+
+impl<'a> Meanings<'a> {
+    /// Makes the table without names. It does not allocate.
+    #[tactic(auto, using(crate::proofs::Finding::none_placed))]
+    pub fn new(alloc: Global) -> Self
+        ensures { result ≡ [] }
+    {
+        Meanings {
+            table: NameTable::new(alloc),
+            names: List::new(alloc),
+            places: Vec::new(alloc),
+        }
+    }
+
+    /// The number of names.
+    pub fn len(&self) -> usize
+        ensures { result ≡ length self.now }
+    {
+        self.table.len()
+    }
+
+    /// Whether a name is there.
+    pub fn contains(&self, name: &Name) -> bool
+        ensures { result ≡ is_named name.now self.now }
+    {
+        self.table.contains(name)
+    }
+
+    /// Returns the meaning of a name.
+    pub fn find(&self, name: &Name) -> Option<Declared<'a>>
+        ensures { result ≡ entry_of name.now self.now }
+    {
+        match self.near(name) {
+            Some(declared) => Some(declared),
+            None => self.table.find(name),
+        }
+    }
+
+    /// The meaning of a name that is the last one at its place.
+    fn near(&self, name: &Name) -> Option<Declared<'a>>
+        ensures { IfSome result (λ declared. entry_of name.now self.now ≡ Some declared) }
+    {
+        let index = *self.places.get(place_of(name))?;
+        let own = self.names.as_slice().get(index as usize)?;
+        if own.name.bytes() == name.bytes() {
+            Some(self.table.value_at(own.number))
+        } else {
+            None
+        }
+    }
+
+    /// Puts a name after the others, where it isn't among them.
+    #[tactic(auto, using(crate::proofs::Finding::none_placed))]
+    pub fn add(
+        &mut self,
+        alloc: Global,
+        name: &Name,
+        declared: Declared<'a>,
+    ) -> Result<(), AllocError>
+        requires { entry_of name.now self.old ≡ None }
+        ensures added { OnOk result (self.new ≡ self.old ++ (name.now, declared.entry) ∷ []) }
+    {
+        let number = self.table.len();
+        let index = u32::try_from(self.names.len()).map_err(|_| AllocError)?;
+        mark(&mut self.places, alloc, name, index)?;
+        let mut names = mem::replace(&mut self.names, List::new(alloc));
+        self.table.add(alloc, name, declared)?;
+        names.push(Numbered {
+            name: name.copy(),
+            number,
+        })?;
+        self.names = names;
+        Ok(())
+    }
+}
