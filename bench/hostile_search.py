@@ -7,7 +7,8 @@
 
 A text has definitions over sets of members, which are numbers, signals or values of structs. Each is a quantifier over a set,
 or over each set of a set of sets, with others within it, and then with quantifiers over one member each, over a body that
-compares numbers, divides by them, picks fields, adds and denies; it weighs less than 65,536, and no divisor is 0, so that the
+compares numbers, divides by them, picks fields, adds and denies. It can be within quantifiers over structs whose fields are
+sets of numbers, some small and some large, and over such fields. It weighs less than 65,536, and no divisor is 0, so that the
 text is legal. Some are outputs, as many as the limit of their weights lets be. The search begins with shapes at random,
 changes one number of a shape at a time, with fewer members where the text would weigh too much, and goes on with what takes
 more. Each text that takes more than all before is printed: its seconds of user time, the peak of memory in MB, the code of the
@@ -55,6 +56,15 @@ class Shape:
     single_kind: int = 0    # that member: the variable before, a struct with it, a stored value
     single_counted: int = 0 # the innermost ones of these count
     single_least: int = 0   # at least so many
+    ragged: int = 0         # quantifiers over structs whose fields are sets of numbers, outside all others
+    structs: int = 4        # in the set of these
+    set_fields: int = 2     # of each
+    small: int = 1          # members of such a field
+    large: int = 2          # those of each field with a number that `every` divides, counted through all structs
+    every: int = 3
+    set_levels: int = 1     # quantifiers over such fields, those of one variable and of another in turn
+    set_counted: int = 0    # the innermost one of these counts
+    late: int = 0           # they are within all others but those over one member each, else outside them
     division: int = 0       # what bodies do with numbers: compare them, divide by each, by a sum, by a difference
     fields: int = 2         # of each struct
     depth: int = 1          # structs within one another, which the body picks through
@@ -67,11 +77,14 @@ class Shape:
 
 
 LEAST = {'members': 1, 'distinct': 1, 'sets': 1, 'nesting': 1, 'numeric': 0, 'counted': 0, 'counting': 0, 'threshold': 0,
-         'grouped': 0, 'groups': 1, 'singles': 0, 'single_kind': 0, 'single_counted': 0, 'single_least': 0, 'division': 0,
-         'fields': 1, 'depth': 0, 'uses': 1, 'sums': 0, 'denials': 0, 'labels': 1, 'linked': 0, 'outputs': 0}
+         'grouped': 0, 'groups': 1, 'singles': 0, 'single_kind': 0, 'single_counted': 0, 'single_least': 0, 'ragged': 0,
+         'structs': 1, 'set_fields': 1, 'small': 1, 'large': 1, 'every': 1, 'set_levels': 1, 'set_counted': 0, 'late': 0,
+         'division': 0, 'fields': 1, 'depth': 0, 'uses': 1, 'sums': 0, 'denials': 0, 'labels': 1, 'linked': 0, 'outputs': 0}
 MOST = {'members': 400, 'distinct': 400, 'sets': 100, 'nesting': 40, 'numeric': 40, 'counted': 40, 'counting': 2, 'threshold': 200,
-        'grouped': 40, 'groups': 40, 'singles': 80, 'single_kind': 2, 'single_counted': 80, 'single_least': 2, 'division': 3,
-        'fields': 100, 'depth': 400, 'uses': 40, 'sums': 60, 'denials': 60, 'labels': 60, 'linked': 50, 'outputs': 60_000}
+        'grouped': 40, 'groups': 40, 'singles': 80, 'single_kind': 2, 'single_counted': 80, 'single_least': 2, 'ragged': 3,
+        'structs': 256, 'set_fields': 64, 'small': 12, 'large': 64, 'every': 300, 'set_levels': 60, 'set_counted': 1, 'late': 1,
+        'division': 3, 'fields': 100, 'depth': 400, 'uses': 40, 'sums': 60, 'denials': 60, 'labels': 60, 'linked': 50,
+        'outputs': 60_000}
 
 
 def numbered_levels(shape):
@@ -79,8 +92,18 @@ def numbered_levels(shape):
     return min(shape.numeric, shape.nesting)
 
 
+def set_levels(shape):
+    """How many quantifiers go over fields that are sets."""
+    return shape.set_levels if shape.ragged else 0
+
+
+def count_of_numbers(shape):
+    """How many variables are numbers."""
+    return numbered_levels(shape) + set_levels(shape)
+
+
 def compares(shape):
-    return bool(numbered_levels(shape) or shape.sums)
+    return bool(count_of_numbers(shape) or shape.sums)
 
 
 def uses(shape):
@@ -90,12 +113,12 @@ def uses(shape):
 
 def left_weight(shape):
     """The weight of the left side of a comparison without what is added to it."""
-    levels = numbered_levels(shape)
-    if not levels or shape.division == AS_THEY_ARE:
+    count = count_of_numbers(shape)
+    if not count or shape.division == AS_THEY_ARE:
         return 1
     if shape.division == BY_EACH:
-        return 4 * levels - 1
-    return 7 if levels > 1 else 5
+        return 4 * count - 1
+    return 7 if count > 1 else 5
 
 
 def body_weight(shape):
@@ -109,19 +132,64 @@ def counted_weight(members, threshold, inner):
     return members * inner + 2 * members * (min(members, threshold) + 1) + 4
 
 
+def field_of(shape, level):
+    """Which field a quantifier over a field goes over."""
+    return level // shape.ragged % shape.set_fields
+
+
+def members_of_field(shape, struct, field):
+    """How many numbers a field of a struct has."""
+    return shape.small if (struct * shape.set_fields + field) % shape.every else shape.large
+
+
+def within_struct(shape, struct, variable, inner):
+    """What bodies weigh, with one more for each, where a variable is this struct."""
+    innermost = shape.set_levels - 1
+    for level in reversed(range(variable, shape.set_levels, shape.ragged)):
+        members = members_of_field(shape, struct, field_of(shape, level))
+        if level == innermost and shape.set_counted:
+            inner = counted_weight(members, shape.threshold, inner - 1) + 1
+        else:
+            inner *= members
+        if inner > MOST_WEIGHT:
+            break
+    return inner
+
+
+def within_fields(shape, inner):
+    """What the bodies of quantifiers over structs and their fields weigh, with one more for each.
+
+    The variables go over the same structs, each for itself. The one whose field the innermost quantifier goes over comes first,
+    since that quantifier may count.
+    """
+    for place in range(shape.ragged):
+        variable = (shape.set_levels - 1 - place) % shape.ragged
+        inner = sum(within_struct(shape, struct, variable, inner) for struct in range(shape.structs))
+        if inner > MOST_WEIGHT:
+            break
+    return inner
+
+
+def within_levels(shape, inner, copies):
+    """What quantifiers over members weigh, over this number of copies of bodies, with one more for each copy."""
+    for level in reversed(range(shape.nesting)):
+        if is_counted(shape, level):
+            inner = shape.members * inner + copies * (counted_weight(shape.members, shape.threshold, -1) + 1)
+        else:
+            inner *= shape.members
+        if level < shape.grouped:
+            inner *= shape.groups
+    return inner
+
+
 def weight(shape):
     """The weight of a definition."""
     inner = body_weight(shape)
     for _ in range(min(shape.single_counted, shape.singles)):
         inner = counted_weight(1, shape.single_least, inner)
-    for level in reversed(range(shape.nesting)):
-        if is_counted(shape, level):
-            inner = counted_weight(shape.members, shape.threshold, inner)
-        else:
-            inner = shape.members * (inner + 1) - 1
-        if level < shape.grouped:
-            inner = shape.groups * (inner + 1) - 1
-    return inner + 2
+    if shape.ragged and shape.late:
+        return within_levels(shape, within_fields(shape, inner + 1), shape.structs ** shape.ragged) + 1
+    return within_fields(shape, within_levels(shape, inner + 1, 1)) + 1
 
 
 def is_counted(shape, level):
@@ -130,9 +198,15 @@ def is_counted(shape, level):
 
 def tokens(shape):
     """About how many tokens a definition has, and not fewer."""
-    levels = 12 * (shape.nesting + min(shape.grouped, shape.nesting)) + 18 * shape.singles
-    divided = 4 * numbered_levels(shape) + 10 if shape.division else 0
-    return levels + divided + uses(shape) * (2 * shape.depth + 4) + 2 * shape.sums + shape.denials + 20
+    levels = shape.nesting + min(shape.grouped, shape.nesting) + shape.ragged + set_levels(shape)
+    divided = 4 * count_of_numbers(shape) + 10 if shape.division else 0
+    return 12 * levels + 18 * shape.singles + divided + uses(shape) * (2 * shape.depth + 4) + 2 * shape.sums + shape.denials + 20
+
+
+def struct_tokens(shape):
+    """About how many tokens a struct with fields that are sets has, and not fewer."""
+    large = min(shape.set_fields, shape.set_fields // shape.every + 1)
+    return 2 * (large * (shape.large + 1) + (shape.set_fields - large) * (shape.small + 1)) + 10
 
 
 def sets_weight(shape):
@@ -141,9 +215,17 @@ def sets_weight(shape):
     return shape.groups * plain + 1 if shape.grouped else plain
 
 
+def structs_weight(shape):
+    """The weight of the set of structs with fields that are sets."""
+    fields = shape.structs * shape.set_fields
+    large = -(-fields // shape.every)
+    return 1 + shape.structs + fields + large * shape.large + (fields - large) * shape.small
+
+
 def is_legal(shape):
-    light = max(weight(shape), weight(shape) * shape.outputs, sets_weight(shape)) <= MOST_WEIGHT
-    return light and tokens(shape) <= MOST_TOKENS and max(shape.members, shape.distinct) <= MOST_TOKENS // 2 - 5
+    light = max(sets_weight(shape), structs_weight(shape), weight(shape) * max(shape.outputs, 1)) <= MOST_WEIGHT
+    short = max(tokens(shape), struct_tokens(shape)) <= MOST_TOKENS
+    return light and short and max(shape.members, shape.distinct) <= MOST_TOKENS // 2 - 5
 
 
 def numeral(place):
@@ -184,6 +266,18 @@ def structs(shape):
     return ''.join(pieces)
 
 
+def ragged_structs(shape):
+    """Structs whose fields are sets of numbers, and the set of them."""
+    pieces = ['STRUCT ragged: { %s: set<int>; };\n' % ', '.join('f%d' % k for k in range(shape.set_fields))]
+    for struct in range(shape.structs):
+        sets = []
+        for field in range(shape.set_fields):
+            places = range(struct + field, struct + field + members_of_field(shape, struct, field))
+            sets.append('{%s}' % ', '.join(str(numeral(place % shape.distinct)) for place in places))
+        pieces.append('DEFINE r%d := ragged(%s);\n' % (struct, ', '.join(sets)))
+    return ''.join(pieces) + 'DEFINE all_r := {%s};\n' % ', '.join('r%d' % k for k in range(shape.structs))
+
+
 def head(shape):
     """Signals, structs, and the sets of what is quantified over."""
     pieces = ['INPUT p: bool; x: int;\nSTRUCT t: { a: bool; b: bool; c: bool; };\n']
@@ -194,6 +288,8 @@ def head(shape):
     pieces.append(sets_of(shape, 's', ['e%d' % k for k in range(shape.distinct)]))
     if numbered_levels(shape):
         pieces.append(sets_of(shape, 'n', [str(numeral(k)) for k in range(shape.distinct)]))
+    if shape.ragged:
+        pieces.append(ragged_structs(shape))
     pieces.append('STRUCT box: { a: %s; };\n' % kind_of_last(shape))
     return ''.join(pieces)
 
@@ -222,11 +318,24 @@ def last(shape):
     return single_variable(shape, shape.singles - 1) + '.a' * (shape.single_kind == OF_STRUCT)
 
 
+def struct_variable(shape, place):
+    """A variable over structs with fields that are sets."""
+    return 'r' + ('v%d' % place).ljust(shape.labels, 'r')
+
+
+def set_variable(shape, level):
+    """The variable of a quantifier over such a field."""
+    return 'f' + ('v%d' % level).ljust(shape.labels, 'f')
+
+
 def numbers(shape):
     """The variables that are numbers, the outermost first."""
     levels = numbered_levels(shape)
     names = [variable(shape, level) for level in range(levels)]
-    return names[:-1] + [last(shape)] if levels == shape.nesting else names
+    if levels == shape.nesting:
+        names[-1] = last(shape)
+    within = [set_variable(shape, level) for level in range(set_levels(shape))]
+    return names + within if shape.late else within + names
 
 
 def compared(shape):
@@ -276,21 +385,49 @@ def singled(shape, text):
     return text
 
 
+def counting(shape, own, members, text):
+    """A body within a quantifier that counts."""
+    return '%s(%s: %s, %d)(%s)' % (COUNTING[shape.counting], own, members, shape.threshold, text)
+
+
+def over_fields(shape, text):
+    """A body within quantifiers over fields that are sets."""
+    for level in reversed(range(set_levels(shape))):
+        own = set_variable(shape, level)
+        members = '%s.f%d' % (struct_variable(shape, level % shape.ragged), field_of(shape, level))
+        if shape.set_counted and level == shape.set_levels - 1:
+            text = counting(shape, own, members, text)
+        else:
+            text = 'foreach(%s: %s)(%s)' % (own, members, text)
+    return text
+
+
+def over_members(shape, number, text):
+    """A body within the quantifiers over members."""
+    for level in reversed(range(shape.nesting)):
+        own, letter = variable(shape, level), letter_of(shape, level)
+        members = 'm%s' % own if level < shape.grouped else '%s%d' % (letter, (number + level) % shape.sets)
+        if is_counted(shape, level):
+            text = counting(shape, own, members, text)
+        else:
+            text = 'for%s(%s: %s)(%s)' % (('each', 'some')[level % 2], own, members, text)
+        if level < shape.grouped:
+            text = 'foreach(%s: all_%s)(%s)' % (members, letter, text)
+    return text
+
+
 def name_of(shape, number):
     return ('d%d' % number).ljust(shape.labels, '_')
 
 
 def definition(shape, number):
     text = singled(shape, body(shape))
-    for level in reversed(range(shape.nesting)):
-        own, letter = variable(shape, level), letter_of(shape, level)
-        members = 'm%s' % own if level < shape.grouped else '%s%d' % (letter, (number + level) % shape.sets)
-        if is_counted(shape, level):
-            text = '%s(%s: %s, %d)(%s)' % (COUNTING[shape.counting], own, members, shape.threshold, text)
-        else:
-            text = 'for%s(%s: %s)(%s)' % (('each', 'some')[level % 2], own, members, text)
-        if level < shape.grouped:
-            text = 'foreach(%s: all_%s)(%s)' % (members, letter, text)
+    if shape.late:
+        text = over_members(shape, number, over_fields(shape, text))
+    else:
+        text = over_fields(shape, over_members(shape, number, text))
+    for place in reversed(range(shape.ragged)):
+        text = 'foreach(%s: all_r)(%s)' % (struct_variable(shape, place), text)
     if shape.linked and number and number % shape.linked == 0:
         text = 't(p, %s, %s).a' % (name_of(shape, number - 1), text)
     return 'DEFINE %s := %s;\n' % (name_of(shape, number), text)
@@ -313,8 +450,9 @@ def text_of(shape, size):
 
 def fitted(shape):
     """The shape, with fewer members where it isn't legal, and would be with these."""
-    while not is_legal(shape) and shape.members > 1:
-        shape = dataclasses.replace(shape, members=shape.members * 7 // 8)
+    while not is_legal(shape) and max(shape.members, shape.structs) > 1:
+        name = 'structs' if shape.structs > shape.members else 'members'
+        shape = dataclasses.replace(shape, **{name: getattr(shape, name) * 7 // 8})
     return shape
 
 

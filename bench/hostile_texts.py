@@ -157,6 +157,73 @@ def sets_of_sets(sizes, count):
     return ''.join(sets) + 'z:={%s};\n' % ', '.join('s%d' % (k % len(sizes)) for k in range(count))
 
 
+def number_set(first, size):
+    """A set of this many numbers, written out."""
+    return '{%s}' % ','.join(str(3 * (first + k) + 1) for k in range(size))
+
+
+def structs_of_sets(sizes):
+    """Structs whose fields are sets of numbers, of these sizes for each struct, and the set of all of them."""
+    fields = members(len(sizes[0]), 'f#')
+    values = ['e%d:=t(%s);\n' % (k, ','.join(number_set(k + place, size) for place, size in enumerate(own)))
+              for k, own in enumerate(sizes)]
+    return '%sSTRUCT t: { %s: set<int>; };\nDEFINE\n%sz:={%s};\n' % (
+        SIGNALS, fields, ''.join(values), members(len(sizes), 'e#'))
+
+
+def ragged(fields):
+    """64 structs with this many fields that are sets: at each of these one struct has two numbers, and the others have one."""
+    return structs_of_sets([[1 + (place % 64 == k) for place in range(fields)] for k in range(64)])
+
+
+def over_fields(fields):
+    """A definition of quantifiers over all fields of a struct, within one another, within one over structs."""
+    head = ''.join('foreach(a%d:v.f%d)(' % (k, k) for k in range(fields))
+    return 'd#:=foreach(v:z)(%sa%d<a%d%s);\n' % (head, fields - 2, fields - 1, ')' * fields)
+
+
+def ragged_sets(levels):
+    """64 sets of one member within one another, to a depth: at each depth one of these has two members."""
+    pieces = []
+    for k in range(64):
+        value = str(k)
+        for depth in reversed(range(levels)):
+            value = '{%s}' % (','.join([value] * (1 + (depth % 64 == k))))
+        pieces.append('s%d:=%s;\n' % (k, value))
+    return '%sDEFINE\n%sz:={%s};\n' % (SIGNALS, ''.join(pieces), members(64, 's#'))
+
+
+def through_sets(levels):
+    """A definition of quantifiers, each over the set that the variable before is."""
+    head = ''.join('foreach(a%d:a%d)(' % (k + 1, k) for k in range(levels))
+    return 'd#:=foreach(a0:z)(%sa%d<9%s);\n' % (head, levels, ')' * levels)
+
+
+def turned_within(count):
+    """Sets of sets of numbers, in turn one set of two and two sets of one."""
+    forms = ['{{%d,%d}}', '{{%d},{%d}}']
+    return 'z:={%s};\n' % ','.join(forms[k % 2] % (3 * k + 1, 3 * k + 4) for k in range(count))
+
+
+def passed_fields(levels):
+    """A definition over pairs of structs, with quantifiers over a field of one number, of the second and the first in turn."""
+    head = ''.join('foreach(a%d:%s.f0)(' % (k, 'wv'[k % 2]) for k in range(levels))
+    return 'd#:=foreach(v:z)(foreach(w:z)(%sa%d<a%d%s));\n' % (head, levels - 2, levels - 1, ')' * levels)
+
+
+def literal_twos(sets, body):
+    """A definition of quantifiers over these sets within one another: numbers, or structs that are written out."""
+    names = 'abcdefghijklmno'[:len(sets)]
+    head = ''.join('foreach(%s:%s)(' % pair for pair in zip(names, sets))
+    return 'a#:=%s%s%s;\n' % (head, body, ')' * len(sets))
+
+
+def one_field(number):
+    """A definition over pairs of structs and over the numbers of one field of both."""
+    field = number % 8
+    return 'a%d:=foreach(v:o)(foreach(w:z)(foreach(a:v.f%d)(foreach(b:w.f%d)(a<b))));\n' % (number, field, field)
+
+
 def within_singles(body, levels):
     """A body within so many quantifiers over one stored struct each."""
     return ''.join('foreach(v%d:{t0})(' % k for k in range(levels)) + body + ')' * levels
@@ -248,6 +315,41 @@ TEXTS = [
            numbered('a#:=foreach(y:z)(foreach(v:y)(foreach(u:z)(foreach(w:u)(v<w))));\n'), 'FTSPEC p;\n'),
     filled('uneven-sets', 'the same from a set of sets of one and of nine', SIGNALS + 'DEFINE\n' + sets_of_sets((1,) * 8 + (9,), 63),
            numbered('a#:=foreach(y:z)(foreach(v:y)(foreach(u:z)(foreach(w:u)(v<w))));\n'), 'FTSPEC p;\n'),
+    filled('uneven-fields', 'the same over fields that are sets of one and of nine, of pairs of structs',
+           structs_of_sets([[9 if k % 9 == 8 else 1] for k in range(63)]),
+           numbered('a#:=foreach(y:z)(foreach(v:y.f0)(foreach(u:z)(foreach(w:u.f0)(v<w))));\n'), 'FTSPEC p;\n'),
+    filled('turned-fields', 'the same over two fields, one of which is a set of two where the other is one of one',
+           structs_of_sets([[1 + k % 2, 2 - k % 2] for k in range(63)]),
+           numbered('a#:=foreach(y:z)(foreach(a:y.f0)(foreach(b:y.f1)(foreach(u:z)(foreach(v:u.f0)(foreach(w:u.f1)(a<w))))));\n'),
+           'FTSPEC p;\n'),
+    filled('turned-sets', 'the same over sets of one set of two and of two sets of one, in turn',
+           SIGNALS + 'DEFINE\n' + turned_within(63),
+           numbered('a#:=foreach(y:z)(foreach(a:y)(foreach(v:a)(foreach(u:z)(foreach(b:u)(foreach(w:b)(v<w))))));\n'),
+           'FTSPEC p;\n'),
+    Text('ragged-fields', 'one definition over 64 structs, of 14 quantifiers over a field each, which is a set of two in one '
+         'struct and of one in all others', lambda: ragged(14) + numbered(over_fields(14))(0) + 'FTSPEC p;\n'),
+    filled('many-ragged', 'many of these', ragged(14), numbered(over_fields(14)), 'FTSPEC p;\n'),
+    Text('ragged-chain', 'one of 90 such quantifiers', lambda: ragged(90) + numbered(over_fields(90))(0) + 'FTSPEC p;\n'),
+    Text('ragged-sets', 'one definition of 60 quantifiers over sets within one another, of which at each depth one has two '
+         'members and 63 have one', lambda: ragged_sets(60) + numbered(through_sets(60))(0) + 'FTSPEC p;\n'),
+    filled('many-ragged-sets', 'many of 14 such quantifiers', ragged_sets(14), numbered(through_sets(14)), 'FTSPEC p;\n'),
+    filled('passed-fields', '50 quantifiers over a field each that is a set of one number, within one over pairs of structs',
+           structs_of_sets([[1]] * 127), numbered(passed_fields(50)), 'FTSPEC p;\n'),
+    filled('counted-sets', 'unused definitions that count over pairs of numbers from a set of sets of one to nine',
+           SIGNALS + 'DEFINE\n' + sets_of_sets((1, 9, 2, 8, 3, 7, 4, 6, 5), 16),
+           numbered('a#:=foreach(y:z)(foratleast(v:y,1)(foreach(u:z)(foratmost(w:u,2)(v<w))));\n'), 'FTSPEC p;\n'),
+    filled('literal-twos', '13 quantifiers over two numbers within one another, around one over two structs that are written out',
+           SIGNALS + 'STRUCT t: { a: int; };\nDEFINE s:={1,2};\n',
+           numbered(literal_twos(['s'] * 13 + ['{t(1),t(2)}'], 'm<n.a')), 'FTSPEC p;\n'),
+    filled('literal-all', '14 quantifiers over two such structs within one another',
+           SIGNALS + 'STRUCT t: { a: int; };\nDEFINE\n', numbered(literal_twos(['{t(1),t(2)}'] * 14, 'a.a<n.a')), 'FTSPEC p;\n'),
+    filled('literal-mixed', '14 quantifiers within one another, three of them over two such structs, the others over two numbers',
+           SIGNALS + 'STRUCT t: { a: int; };\nDEFINE s:={1,2};\n',
+           numbered(literal_twos((['s'] * 4 + ['{t(1),t(2)}']) * 2 + ['s'] * 3 + ['{t(1),t(2)}'], 'a<n.a')), 'FTSPEC p;\n'),
+    filled('distinct-fields', 'unused definitions over pairs of 28 and of 256 structs, and over one of their 8 fields, which are '
+           'sets of one or two, otherwise in each struct',
+           structs_of_sets([[1 + (k >> place & 1) for place in range(8)] for k in range(256)])
+           + 'o:={%s};\n' % ','.join('e%d' % (19 * k % 256) for k in range(28)), one_field, 'FTSPEC p;\n'),
     filled('passed-sets', 'the same over sets of two and three, within 60 quantifiers over one struct each',
            SIGNALS + 'STRUCT t: { a: bool; };\nDEFINE\nt0:=t(p);\n' + sets_of_sets((2, 3), 50),
            numbered('a#:=foreach(y:z)(foreach(v:y)(foreach(u:z)(foreach(w:u)(%s))));\n' % within_singles('v<w', 60)),
