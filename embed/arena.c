@@ -317,8 +317,8 @@ static size_t grown_for(size_t size, size_t count) { return 3U * list_for(size, 
 /* Reading: the lists of a program, and five that hold its entries for a while. */
 static size_t reading_of(const struct r2u2_counts *counts) {
     return list_for(16U, counts->bz) + list_for(24U + 20U, counts->ft) + list_for(24U + 20U, counts->pt) +
-           list_for(4U, counts->ft) + list_for(4U, counts->pt) + list_for(20U + 88U, counts->outs) +
-           list_for(8U + 80U, counts->signals) + (4U * sizeof(struct r2u2_block));
+           list_for(4U, counts->ft) + list_for(4U, counts->pt) + list_for(20U + 80U, counts->outs) +
+           list_for(8U + 72U, counts->signals) + (4U * sizeof(struct r2u2_block));
 }
 
 /* Verifying: columns, names in order, ranges, delays, sizes, and the signal that each instruction reads. */

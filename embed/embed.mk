@@ -84,7 +84,7 @@ $(TRIES):
 	@mkdir -p $@
 
 # The library asks for these names alone, has no data that is written, and links at any address.
-ASKED = __divti3 memcpy memmove memset rattle_alloc rattle_dealloc rattle_realloc
+ASKED = memcpy memmove memset rattle_alloc rattle_dealloc rattle_realloc
 
 check-symbols: | $(TRIES)
 	$(TARGET_NM) -u $(EMBED)/libr2u2.a | awk '$$1 == "U" { print $$2 }' | sort -u > $(TRIES)/symbols

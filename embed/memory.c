@@ -1,5 +1,5 @@
 /* memcpy, memmove and memset, for a program without a C library: the only calls that the library and arena.c make besides
- * those of r2u2_alloc.h and the compiler's own __divti3. Compile it with -ffreestanding -fno-builtin. */
+ * those of r2u2_alloc.h. Compile it with -ffreestanding -fno-builtin. */
 #include <stddef.h>
 #include <stdint.h>
 

@@ -3,23 +3,27 @@
 ghost use Rattle.std.specs.Prelude.{◌≡◌, ◌↔◌, ◌≤◌, ℕ, length, IsSome, IfSome};
 ghost use Rattle.mltl_base.specs.Letters.{is_in_word};
 
-use arrayvec::ArrayVec;
 use std::marker::Model;
 
-/// A name of 1 to 64 bytes, which contracts see as the list of its bytes.
+/// The most bytes of a name.
+const MOST: usize = 64;
+
+/// A name of 1 to 64 bytes, which contracts see as the list of its bytes. It takes 65 bytes at any address: trees and tokens
+/// hold many, and with a word for the length they would take an eighth more.
 #[derive(Drop)]
 pub struct Name {
-    letters: ArrayVec<u8, 64>,
+    letters: [u8; MOST],
+    count: u8,
 }
 
 impl Model for Name {
-    ghost use Rattle.std.specs.Prelude.{List, ℕ, ◌≤◌, length};
+    ghost use Rattle.std.specs.Prelude.{List, ℕ, ◌≡◌, ◌≤◌, length, take};
 
     ghost Value = { List ℕ };
 
-    ghost view = { λ name. name.letters.items };
+    ghost view = { λ name. take name.count name.letters };
 
-    ghost invariant = { λ name. (1 ≤ length name.letters.items) × (length name.letters.items ≤ 64) };
+    ghost invariant = { λ name. (length name.letters ≡ 64) × ((1 ≤ name.count) × (name.count ≤ 64)) };
 }
 
 impl Name {
@@ -28,14 +32,16 @@ impl Name {
         ensures fits { IsSome result ↔ ((1 ≤ length bytes.now) × (length bytes.now ≤ 64)) }
         ensures named { IfSome result (λ name. name ≡ bytes.now) }
     {
-        if bytes.is_empty() {
+        let len = bytes.len();
+        if len == 0 || len > MOST {
             return None;
         }
-        let mut letters = ArrayVec::new();
-        match letters.try_extend_from_slice(bytes) {
-            Ok(()) => Some(Name { letters }),
-            Err(_) => None,
-        }
+        let mut letters = [0; MOST];
+        letters[..len].copy_from_slice(bytes);
+        Some(Name {
+            letters,
+            count: len as u8,
+        })
     }
 
     /// The bytes of the name.
@@ -44,16 +50,16 @@ impl Name {
         ensures some { 1 ≤ length self.now }
         ensures limit { length self.now ≤ 64 }
     {
-        self.letters.as_slice()
+        &self.letters[..usize::from(self.count)]
     }
 
     /// A second name with the same bytes.
     pub fn copy(&self) -> Name
         ensures { result ≡ self.now }
     {
-        match Name::of(self.bytes()) {
-            Some(name) => name,
-            None => unreachable!(),
+        Name {
+            letters: self.letters,
+            count: self.count,
         }
     }
 }

@@ -125,7 +125,11 @@ pub fn quotient(a: Range, b: Range) -> Result<Range, NoRange>
     ensures { IsRangeOf result (over_divisor divided (Ok a) (Ok b)) }
 {
     let divisor = divisor_of(b)?;
-    let (low, high) = (over(a.least(), divisor), over(a.greatest(), divisor));
+    let low = over(a.least(), divisor);
+    if a.least() == a.greatest() {
+        return in_word(low, low);
+    }
+    let high = over(a.greatest(), divisor);
     in_word(low.min(high), low.max(high))
 }
 
@@ -195,9 +199,13 @@ fn times(x: i64, y: i64) -> i128
     i128::from(x) * i128::from(y)
 }
 
+/// A quotient, which has 64 bits but for that of the least number and -1.
 fn over(x: i64, y: i64) -> i128
     requires { y ≢ pos 0 }
     ensures { result ≡ int_div x y }
 {
-    i128::from(x) / i128::from(y)
+    match x.checked_div(y) {
+        Some(quotient) => i128::from(quotient),
+        None => i128::from(x) / i128::from(y),
+    }
 }

@@ -24,9 +24,9 @@ pub const FT_OP_BYTES: usize = 20;
 /// The bytes of a past-time instruction.
 pub const PT_OP_BYTES: usize = 20;
 /// The bytes of an output, its name among them.
-pub const OUT_BYTES: usize = 88;
+pub const OUT_BYTES: usize = 80;
 /// The bytes of a stored signal, its name among them.
-pub const SIGNAL_BYTES: usize = 80;
+pub const SIGNAL_BYTES: usize = 72;
 /// The bytes of a size, and of a delay.
 pub const SIZE_BYTES: usize = 4;
 /// The bytes of the number of a signal that an instruction reads, if it reads one.
