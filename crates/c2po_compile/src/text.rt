@@ -8,7 +8,7 @@ ghost use Rattle.c2po_compile.specs.Front.{first_refusal, items_in};
 use crate::CompileFault;
 use c2po_lexer::lex;
 use c2po_parse::parse;
-use c2po_types::{TypedSpec, check};
+use c2po_types::{TypedSpec, check_owned};
 use mltl_base::limits::MAX_SPEC_BYTES;
 use std::alloc::Global;
 
@@ -25,6 +25,6 @@ pub fn front(alloc: Global, text: &[u8]) -> Result<TypedSpec, CompileFault>
     let tokens = lex(alloc, text)?;
     let tree = parse(alloc, &tokens)?;
     drop(tokens);
-    let spec = check(alloc, &tree)?;
+    let spec = check_owned(alloc, tree)?;
     Ok(spec)
 }

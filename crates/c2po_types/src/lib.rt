@@ -35,5 +35,5 @@ pub use items::{check_contract, check_define, check_formula, declare_label};
 pub use kind::{Base, Kind, Meaning};
 pub use mltl_base::{NameTable, Signal};
 pub use scope::Scope;
-pub use spec_check::check;
+pub use spec_check::{check, check_owned};
 pub use typed::TypedSpec;
