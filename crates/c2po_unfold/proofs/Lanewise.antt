@@ -1,6 +1,6 @@
 -- Quantifiers over sets that differ from case to case.
 
-use Rattle.std.proofs.Common.{◌≡◌, ℕ, zero, suc, ◌+◌, ◌<◌, Result, Ok, Err, OnOk, Some, List, [], ◌∷◌, ◌++◌, ◌⊎◌, inl, inr, false, take, length, get_or, slice_get, refl, sym, subst, ap, ◌∙◌, arith}
+use Rattle.std.proofs.Common.{◌≡◌, ℕ, zero, suc, ◌+◌, ◌<◌, Some, List, [], ◌∷◌, ◌++◌, ◌⊎◌, inl, inr, false, take, length, get_or, slice_get, refl, sym, subst, ap, ◌∙◌, arith}
 use Rattle.std.proofs.lemmas.List.{length-append, take_all}
 use Rattle.std.proofs.lemmas.Option.{same_Some, slice_get_within}
 use Rattle.mltl_base.specs.declared.operators.LogicOp.{LogicOp}
@@ -34,11 +34,6 @@ use Rattle.c2po_unfold.specs.Summaries.{IsSummary}
 use Rattle.c2po_unfold.specs.Values.{Value, connected_all, members, truth_value}
 use Rattle.c2po_unfold.proofs.Loops.{bodies_count, body_at, joined_known, joined_one, member_at, take_next}
 use Rattle.c2po_unfold.proofs.Parts.{members_count}
-
--- what holds, holds where a result is none
-pub always : {T E P : Type 0} (r : Result T E) → P → OnOk r P
-always (Ok x) p = p
-always (Err e) p = tt
 
 -- the stored value with a number represents what any does that has the number
 pub own_holds : (u : Unfolding) (ss : List Stored) (i : ℕ) (own : Stored) (v : Value) → slice_get ss i ≡ Some own → HoldsFor u ss i v → Holds u own v

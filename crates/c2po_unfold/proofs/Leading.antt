@@ -7,11 +7,10 @@ use Rattle.c2po_unfold.specs.declared.resolved.Hint.TheVariants.{Place}
 use Rattle.c2po_unfold.specs.declared.resolved.Resolved.{Resolved, Known, Found'}
 use Rattle.c2po_unfold.specs.declared.scope.Scope.{Scope}
 use Rattle.c2po_unfold.specs.declared.values.Stored.{Stored}
-use Rattle.c2po_unfold.specs.declared.scope.Led.{Led}
 use Rattle.c2po_unfold.specs.declared.unfolding.Unfolding.{Unfolding}
 use Rattle.c2po_unfold.specs.Cases.{Case}
 use Rattle.c2po_unfold.specs.Environment.{Env, bind, value, value_in, fields_in}
-use Rattle.c2po_unfold.specs.Heads.{IsLed}
+use Rattle.c2po_unfold.specs.Heads.{IsEntry}
 use Rattle.c2po_unfold.specs.Resolving.{IsBound, IsPlace, IsResolved, resolved_value}
 use Rattle.c2po_unfold.specs.Scopes.{FitsIn, MeetsIn, names_of}
 use Rattle.c2po_unfold.specs.Holding.{Holds}
@@ -24,11 +23,11 @@ pub outer_known : (x y : List ℕ) (v : Value) (env around : Env) → env ≡ bi
 outer_known x y v env around same other =
     ap (λ (e : Env). e y) same ∙ ap (λ b. if b then value v else around y) other
 
-pub led_outer : (m : Case) (u : Unfolding) (base : Env) (r : Led) (x y : List ℕ) (v : Value) (env around : Env) (xs : List (List ℕ)) →
-    env ≡ bind x v around → bytes_eq y x ≡ false → IsBound (x ∷ xs) y → (IsBound xs y → IsLed m u base r (value_in (around y))) →
-    IsLed m u base r (value_in (env y))
-led_outer m u base r x y v env around xs same other h k =
-    subst (λ w. IsLed m u base r (value_in w)) (sym (outer_known x y v env around same other)) (k (bound_further x y xs other h))
+pub entry_outer : (m : Case) (u : Unfolding) (base : Env) (r : Scope) (x y : List ℕ) (v : Value) (env around : Env) (xs : List (List ℕ)) →
+    env ≡ bind x v around → bytes_eq y x ≡ false → IsBound (x ∷ xs) y → (IsBound xs y → IsEntry m u base r (value_in (around y))) →
+    IsEntry m u base r (value_in (env y))
+entry_outer m u base r x y v env around xs same other h k =
+    subst (λ w. IsEntry m u base r (value_in w)) (sym (outer_known x y v env around same other)) (k (bound_further x y xs other h))
 
 -- a hint of the struct's name says the place of the field
 pub hinted : (m : Case) (u : Unfolding) (base : Env) (scope : Scope) (env : Env) (f x y : List ℕ) (k : ℕ) → FitsIn m u base scope env →

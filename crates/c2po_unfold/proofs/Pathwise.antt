@@ -111,8 +111,8 @@ pub member_known : (m : Mode) (u : Unfolding) (o : Option (Bor Member)) (x : Bor
 member_known m u o x v h is = subst (λ p. IfSome p (λ (y : Bor Member). IsMember m u y.now v)) is h
 
 -- the stored value that was found represents the value
-pub found_known : (u : Unfolding) (o : Option Stored) (s : Stored) (v : Value) → IfSome o (λ r. Holds u r v) → o ≡ Some s → Holds u s v
-found_known u o s v h is = subst (λ p. IfSome p (λ r. Holds u r v)) is h
+pub found_known : (u : Unfolding) (o : Option (Bor Stored)) (s : Bor Stored) (v : Value) → IfSome o (λ (r : Bor Stored). Holds u r.now v) → o ≡ Some s → Holds u s.now v
+found_known u o s v h is = subst (λ p. IfSome p (λ (r : Bor Stored). Holds u r.now v)) is h
 
 -- a variable is there, and has its value
 pub variable_bound : (c : Case) (u : Unfolding) (base : Env) (scope : Scope) (env : Env) (e : Resolved) (x : List ℕ) → MeetsIn c u base scope env e → e ≡ Variable x →

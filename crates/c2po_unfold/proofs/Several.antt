@@ -12,7 +12,8 @@ use Rattle.c2po_unfold.specs.declared.counting.Counting.{Counting}
 use Rattle.c2po_unfold.specs.declared.each.Each.{Each}
 use Rattle.c2po_unfold.specs.declared.operators.UnaryOp.{UnaryOp}
 use Rattle.c2po_unfold.specs.declared.operators.BinaryOp.{BinaryOp}
-use Rattle.c2po_unfold.specs.declared.operators.BinaryOp.TheVariants.{Logic}
+use Rattle.c2po_unfold.specs.declared.operators.BinaryOp.TheVariants.{Compare, Logic}
+use Rattle.mltl_base.specs.declared.operators.CompareOp.{CompareOp}
 use Rattle.mltl_base.specs.declared.operators.LogicOp.{LogicOp}
 use Rattle.c2po_unfold.specs.declared.resolved.Resolved.{Resolved}
 use Rattle.c2po_unfold.specs.declared.scope.Member.{Member}
@@ -79,6 +80,10 @@ OverOne op a m i v = (w : Value) × KnownFor m a i w × (v ≡ unary_value op w)
 
 abbrev pub OverTwo : BinaryOp → Each → Each → Mode → ℕ → Value → Type 0
 OverTwo op a b m i v = (w : Value) × (x : Value) × KnownFor m a i w × KnownFor m b i x × (v ≡ binary_value op w x)
+
+-- comparisons of what is known for each value
+abbrev pub OfCompared : Each → Each → Mode → ℕ → Value → Type 0
+OfCompared a b m i v = (op : CompareOp) × (w : Value) × (x : Value) × KnownFor m a i w × KnownFor m b i x × (v ≡ binary_value (Compare op) w x)
 
 -- the only body so far, as a formula
 abbrev pub OfFirst : Each → Mode → ℕ → Value → Type 0

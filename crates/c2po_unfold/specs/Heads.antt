@@ -15,6 +15,7 @@ use Rattle.c2po_unfold.specs.Values.{Value, leaf, structure, set, built, grouped
 use Rattle.c2po_unfold.specs.Environment.{Env}
 use Rattle.c2po_unfold.specs.Holding.{Holds, HoldAll}
 use Rattle.c2po_unfold.specs.Resolving.{AllResolved, IsResolved, is_operation, resolved_value, resolved_values}
+use Rattle.c2po_unfold.specs.declared.scope.Scope.{Scope, Top, Open', Held', Covered', Varied'}
 use Rattle.c2po_unfold.specs.Scopes.{FitsIn, names_of}
 use Rattle.c2po_unfold.specs.Cases.{Case, only, mode_in, IsVaried}
 use Rattle.c2po_unfold.specs.Covering.{Mode}
@@ -28,6 +29,15 @@ IsLed c u base (led.Open scope e) v = (env : Env) × FitsIn c u base scope.now e
 IsLed c u base (led.Held s i) v = Holds u s v
 IsLed c u base (led.Covered s) v = IsOfLeaf (mode_in c) s.now v
 IsLed c u base (led.Varied choice) v = IsVaried c u choice v
+
+-- the innermost of these variables has a value in a case
+abbrev pub IsEntry : Case → Unfolding → Env → Scope → Value → Type 0
+IsEntry c u base Top v = ⊥
+IsEntry c u base (Open' x e _ within _ outer) v = (env : Env) × FitsIn c u base within env
+    × IsResolved u base (names_of within) e.now × (v ≡ resolved_value e.now env)
+IsEntry c u base (Held' x s i _ outer) v = Holds u s v
+IsEntry c u base (Covered' x s _ outer) v = IsOfLeaf (mode_in c) s.now v
+IsEntry c u base (Varied' x choice _ outer) v = IsVaried c u choice v
 
 -- an expression as it is read: a number, a Boolean, an operator or a quantifier
 abbrev pub is_operator : Shape → Bool

@@ -5,9 +5,10 @@
 //! what doesn't depend on such a variable is looked at once.
 
 ghost use Rattle.std.specs.Prelude.{◌≡◌, ◌+◌, ◌*◌, ◌<◌, ◌/◌, ◌%◌, ◌≤◌, ℕ, ◌++◌, ◌∷◌, [], List as Seq, Some, IfOk, IfErr, IfSome, OnOk, length, slice_get};
+ghost use Rattle.mltl_base.specs.declared.operators.CompareOp.{CompareOp};
 ghost use Rattle.mltl_base.specs.declared.operators.LogicOp.{LogicOp as Connective};
 ghost use Rattle.c2po_unfold.specs.declared.fault.UnfoldFault.TheVariants.{Memory};
-ghost use Rattle.c2po_unfold.specs.declared.operators.BinaryOp.TheVariants.{Logic};
+ghost use Rattle.c2po_unfold.specs.declared.operators.BinaryOp.TheVariants.{Compare, Logic};
 ghost use Rattle.c2po_unfold.specs.declared.scope.Head.TheVariants.{Held as HeldSet};
 ghost use Rattle.c2po_unfold.specs.declared.summary.Summary.{Summary as Found};
 ghost use Rattle.c2po_unfold.specs.declared.values.Stored.{Stored as Held};
@@ -76,6 +77,19 @@ impl From<AllocError> for Stop {
     }
 }
 
+/// Puts one more after others, for which there is room.
+#[inline(always)]
+pub(crate) fn add<T: Copy>(all: &mut Vec<T>, x: T) -> Result<(), Stop>
+    ensures { OnOk result (all.new.items ≡ all.old.items ++ x ∷ []) }
+{
+    if all.len() < all.capacity() {
+        all.push_reserved(x);
+        Ok(())
+    } else {
+        Err(Stop::Alone)
+    }
+}
+
 /// The one that all of these are, if they are the same formula without a fault.
 fn the_same(all: &[Summary]) -> Option<Summary>
     ensures { IfSome result (λ s. (i : ℕ) (k : Found) → slice_get all.now i ≡ Some k → k ≡ s) }
@@ -115,7 +129,7 @@ impl Each {
             if !room.holds(a.weight, 0) {
                 return Err(Stop::Alone);
             }
-            all.push(Summary::over_one(op, a))?;
+            add(&mut all, Summary::over_one(op, a))?;
         }
         Ok(Each::Own(all))
     }
@@ -144,7 +158,29 @@ impl Each {
             if !room.holds(a.weight, b.weight) {
                 return Err(Stop::Alone);
             }
-            all.push(Summary::over_two(op, a, b))?;
+            add(&mut all, Summary::over_two(op, a, b))?;
+        }
+        Ok(Each::Own(all))
+    }
+
+    /// What is known of a comparison, in each of `count` cases.
+    fn compared(alloc: Global, a: &Each, b: &Each, count: usize, room: Room) -> Result<Each, Stop>
+        ensures { (m : Mode) (op : CompareOp) (i : ℕ) (v w : Value) → i < count
+            → KnownFor m a.now i v → KnownFor m b.now i w
+            → IfOk result (λ r. KnownFor m r i (binary_value (Compare op) v w)) }
+    {
+        let mut all = Vec::with_capacity(alloc, count)?;
+        for i in 0..count {
+            let Some(a) = a.get(i) else {
+                return Err(Stop::Alone);
+            };
+            let Some(b) = b.get(i) else {
+                return Err(Stop::Alone);
+            };
+            if !room.holds(a.weight, b.weight) {
+                return Err(Stop::Alone);
+            }
+            add(&mut all, a.compared(b))?;
         }
         Ok(Each::Own(all))
     }
@@ -188,8 +224,8 @@ impl Each {
         }
         match op {
             BinaryOp::Arith(op) => Each::zipped(alloc, BinaryOp::Arith(op), a, b, count, room),
-            BinaryOp::Compare(op) => Each::zipped(alloc, BinaryOp::Compare(op), a, b, count, room),
-            BinaryOp::Logic(op) => Each::zipped(alloc, BinaryOp::Logic(op), a, b, count, room),
+            BinaryOp::Compare(_) => Each::compared(alloc, a, b, count, room),
+            BinaryOp::Logic(op) => Each::joined(alloc, op, a, b, 0, count, room),
             BinaryOp::Between(op, low, high) => {
                 Each::zipped(alloc, BinaryOp::Between(op, low, high), a, b, count, room)
             }
@@ -215,11 +251,12 @@ impl Each {
             let Some(known) = self.get(i) else {
                 return Err(Stop::Alone);
             };
-            all.push(Member {
+            let member = Member {
                 summary: *known,
                 stored: None,
                 index: i,
-            })?;
+            };
+            add(&mut *all, member)?;
         }
         Ok(())
     }
@@ -238,7 +275,7 @@ impl Each {
             let Some(body) = body.get(i) else {
                 return Err(Stop::Alone);
             };
-            all.push(body.as_formula())?;
+            add(&mut all, body.as_formula())?;
         }
         Ok(Each::Own(all))
     }
@@ -260,7 +297,7 @@ impl Each {
     {
         if let (Each::Same(a), Each::Same(b)) = (joined, next) {
             room.less(a.weight)?.less(b.weight)?.less(1)?;
-            return Ok(Each::Same(Summary::over_two(BinaryOp::Logic(op), a, b)));
+            return Ok(Each::Same(a.connected(b)));
         }
         let mut all = Vec::with_capacity(alloc, count)?;
         for i in 0..count {
@@ -274,7 +311,7 @@ impl Each {
             if !room.holds(a.weight, b.weight) {
                 return Err(Stop::Alone);
             }
-            all.push(Summary::over_two(BinaryOp::Logic(op), a, b))?;
+            add(&mut all, a.connected(b))?;
         }
         Ok(Each::Own(all))
     }
@@ -309,7 +346,7 @@ impl Each {
             if !room.holds(a.weight, b.weight) {
                 return Err(Stop::Alone);
             }
-            all.push(a.with(b))?;
+            add(&mut all, a.with(b))?;
         }
         Ok(Each::Own(all))
     }
@@ -335,7 +372,7 @@ impl Each {
                 return Err(Stop::Alone);
             };
             let found = counting.of(bodies, room)?;
-            all.push(found)?;
+            add(&mut all, found)?;
         }
         Ok(Each::Own(all))
     }

@@ -7,7 +7,7 @@ ghost use Rattle.c2po_unfold.specs.declared.fault.UnfoldFault.TheVariants.{Memor
 ghost use Rattle.c2po_unfold.specs.Cases.{Case};
 ghost use Rattle.c2po_unfold.specs.Covering.{Mode};
 ghost use Rattle.c2po_unfold.specs.Environment.{Env, fields_in, value_in};
-ghost use Rattle.c2po_unfold.specs.Heads.{Heads, HeadsIn, HoldMembers, IsLed, IsOf, IsOther};
+ghost use Rattle.c2po_unfold.specs.Heads.{Heads, HeadsIn, HoldMembers, IsEntry, IsLed, IsOf, IsOther};
 ghost use Rattle.c2po_unfold.specs.Holding.{Holds, StandsFor};
 ghost use Rattle.c2po_unfold.specs.Resolving.{IsBound, IsPlace, resolved_value};
 ghost use Rattle.c2po_unfold.specs.Scopes.{FitsIn, MeetsIn, names_of};
@@ -21,40 +21,58 @@ use crate::values::{Entry, Location, Stored, Whole};
 use crate::{UnfoldFault, Unfolding};
 use mltl_base::Name;
 
+/// Whether names of any length are the same.
+#[inline(never)]
+fn is_same(own: &Name, name: &Name) -> bool
+    ensures { result ≡ bytes_eq name.now own.now }
+{
+    name.bytes() == own.bytes()
+}
+
+/// Whether names are the same, without a call where they are short.
+#[inline(always)]
+fn is_named(own: &Name, name: &Name) -> bool
+    ensures { result ≡ bytes_eq name.now own.now }
+{
+    match (name.bytes(), own.bytes()) {
+        ([x], [y]) => *x == *y,
+        ([w, x], [y, z]) => *w == *y && *x == *z,
+        _ => is_same(own, name),
+    }
+}
+
 impl<'a> Scope<'a> {
+    /// The variable of a name, with those around it; `Scope::Top` where there is none.
+    fn entry(&'a self, name: &Name) -> &'a Scope<'a>
+        ensures { (c : Case) (u : Unfolding) (base env : Env) → FitsIn c u base self.now env
+            → IsBound (names_of self.now) name.now
+            → IsEntry c u base result.now (value_in (env name.now)) }
+    {
+        match self {
+            Scope::Top => self,
+            Scope::Open { name: own, .. } if is_named(own, name) => self,
+            Scope::Held { name: own, .. } if is_named(own, name) => self,
+            Scope::Covered { name: own, .. } if is_named(own, name) => self,
+            Scope::Varied { name: own, .. } if is_named(own, name) => self,
+            Scope::Open { outer, .. } => outer.entry(name),
+            Scope::Held { outer, .. } => outer.entry(name),
+            Scope::Covered { outer, .. } => outer.entry(name),
+            Scope::Varied { outer, .. } => outer.entry(name),
+        }
+    }
+
     /// What a variable leads to.
+    #[inline(always)]
     pub(crate) fn variable(&'a self, name: &Name) -> Led<'a>
         ensures { (c : Case) (u : Unfolding) (base env : Env) → FitsIn c u base self.now env
             → IsBound (names_of self.now) name.now → IsLed c u base result (value_in (env name.now)) }
     {
-        match self {
+        match self.entry(name) {
             Scope::Top => Led::Nowhere,
-            Scope::Open {
-                name: own,
-                expr,
-                within,
-                ..
-            } if name.bytes() == own.bytes() => Led::Open(within, expr),
-            Scope::Held {
-                name: own,
-                stored,
-                index,
-                ..
-            } if name.bytes() == own.bytes() => Led::Held(*stored, *index),
-            Scope::Covered {
-                name: own,
-                summary,
-                ..
-            } if name.bytes() == own.bytes() => Led::Covered(summary),
-            Scope::Varied {
-                name: own,
-                choice,
-                ..
-            } if name.bytes() == own.bytes() => Led::Varied(*choice),
-            Scope::Open { outer, .. } => outer.variable(name),
-            Scope::Held { outer, .. } => outer.variable(name),
-            Scope::Covered { outer, .. } => outer.variable(name),
-            Scope::Varied { outer, .. } => outer.variable(name),
+            Scope::Open { expr, within, .. } => Led::Open(within, expr),
+            Scope::Held { stored, index, .. } => Led::Held(*stored, *index),
+            Scope::Covered { summary, .. } => Led::Covered(summary),
+            Scope::Varied { choice, .. } => Led::Varied(*choice),
         }
     }
 
@@ -123,7 +141,7 @@ impl Unfolding {
             → result ≡ position (bytes_eq field.now) (fields_in (env whole.now)) }
     {
         match hint {
-            Hint::Place(owner, place) if owner.bytes() == whole.bytes() => Some(*place),
+            Hint::Place(owner, place) if is_named(whole, owner) => Some(*place),
             _ => self.field_place(scope, whole, field),
         }
     }
@@ -182,6 +200,35 @@ impl Unfolding {
         }
     }
 
+    /// The part that a field names of a variable's value, where that is a struct's value that is written out.
+    #[inline(always)]
+    fn written_part<'a>(
+        &self,
+        scope: &'a Scope<'a>,
+        whole: &Resolved,
+        field: &Name,
+        hint: &Hint,
+    ) -> Option<(&'a Scope<'a>, &'a Resolved)>
+        ensures { (c : Case) (base env : Env) → MeetsIn c self.now base scope.now env whole.now
+            → IsPlace base (names_of scope.now) field.now hint.now
+            → IfSome result (λ p. (inner : Env) × MeetsIn c self.now base p.0.now inner p.1.now
+            × (resolved_value p.1.now inner
+            ≡ picked (λ y. fields_in (env y)) field.now (resolved_value whole.now env))) }
+    {
+        let Resolved::Variable(name) = whole else {
+            return None;
+        };
+        let Scope::Open { expr, within, .. } = scope.entry(name) else {
+            return None;
+        };
+        let Resolved::Build(owner, parts) = *expr else {
+            return None;
+        };
+        let place = self.hinted_place(scope, owner, field, hint)?;
+        let part = parts.as_slice().get(place)?;
+        Some((*within, part))
+    }
+
     /// What an expression leads to.
     #[cycle(heading)]
     pub(crate) fn head<'a>(
@@ -196,15 +243,12 @@ impl Unfolding {
     {
         match e {
             Resolved::Known(_, stored) | Resolved::Found(_, stored) => Ok(Head::Held(*stored)),
-            Resolved::Variable(name) => match scope.variable(name) {
-                Led::Open(within, expr) => {
-                    let levels = deeper(levels)?;
-                    self.head(levels, within, expr)
-                }
-                Led::Held(stored, _) => Ok(Head::Held(stored)),
-                Led::Covered(summary) => Ok(Head::Covered(summary)),
-                Led::Varied(choice) => Ok(Head::Varied(choice)),
-                Led::Nowhere => Ok(Head::Nothing(scope, e)),
+            Resolved::Variable(name) => match scope.entry(name) {
+                Scope::Open { expr, within, .. } => self.head(deeper(levels)?, within, expr),
+                Scope::Held { stored, .. } => Ok(Head::Held(*stored)),
+                Scope::Covered { summary, .. } => Ok(Head::Covered(summary)),
+                Scope::Varied { choice, .. } => Ok(Head::Varied(*choice)),
+                Scope::Top => Ok(Head::Nothing(scope, e)),
             },
             Resolved::Column(e, name, rows) => match scope.found(name, rows.as_slice()) {
                 Some(found) => Ok(Head::Held(found)),
@@ -215,6 +259,9 @@ impl Unfolding {
             },
             Resolved::Part(whole, field, hint) => {
                 let levels = deeper(levels)?;
+                if let Some((within, part)) = self.written_part(scope, whole, field, hint) {
+                    return self.head(deeper(levels)?, within, part);
+                }
                 let whole = self.head(levels, scope, whole)?;
                 self.part(levels, scope, whole, field, hint)
             }

@@ -61,6 +61,11 @@ pub(crate) struct Known {
 }
 
 impl Way {
+    /// No bodies are checked together.
+    pub(crate) fn alone() -> Way {
+        Way::Alone
+    }
+
     /// Whether bodies with quantifiers within are checked together.
     pub(crate) fn is_nested(self) -> bool {
         matches!(self, Way::Nested)
@@ -91,7 +96,7 @@ pub(crate) fn kind_in(kinds: &[BodyFact], kind: &Summary) -> Option<Summary>
 
 /// The stored value that a member leads to, if it does.
 #[inline(always)]
-pub(crate) fn held_in(head: &Head<'_>) -> Option<Stored>
+fn held_in(head: &Head<'_>) -> Option<Stored>
     ensures { (s : Stored) → result ≡ Some s → head.now ≡ Held s }
 {
     match head {
@@ -110,6 +115,20 @@ impl BodyFact {
             member: None,
             cover: None,
             summary: Summary::none(),
+        }
+    }
+
+    /// What is known of the body where its variable is what a member leads to.
+    #[inline(always)]
+    pub(crate) fn of(head: &Head<'_>, summary: Summary) -> BodyFact
+        ensures member { (s : Stored) → result.member ≡ Some s → head.now ≡ Held s }
+        ensures cover { result.cover ≡ None }
+        ensures summary { result.summary ≡ summary }
+    {
+        BodyFact {
+            member: held_in(head),
+            cover: None,
+            summary,
         }
     }
 

@@ -5,7 +5,6 @@
 
 ghost use Rattle.std.specs.Prelude.{◌≡◌, ◌<◌, ℕ, true, ◌∷◌, ◌++◌, [], List as Seq, Some, IfOk, IfSome, OnOk, length, slice_get};
 ghost use Rattle.mltl_base.specs.declared.operators.LogicOp.{LogicOp as Connective};
-ghost use Rattle.c2po_unfold.specs.declared.lanes.Looked.{Looked as Seen};
 ghost use Rattle.c2po_unfold.specs.declared.operators.BinaryOp.TheVariants.{Logic};
 ghost use Rattle.c2po_unfold.specs.declared.path.Path.{Path as CasePath};
 ghost use Rattle.c2po_unfold.specs.Ahead.{HasMember, HoldsFor, IsGathered, KnownFor, known_at};
@@ -21,8 +20,7 @@ ghost use Rattle.c2po_unfold.specs.Values.{Value, connected_all, counted, member
 
 use crate::Unfolding;
 use crate::counting::Counting;
-use crate::each::{Each, Stop};
-use crate::operators::BinaryOp;
+use crate::each::{Each, Stop, add};
 use crate::path::{Cases, Path};
 use crate::resolved::Quantified;
 use crate::room::Room;
@@ -82,14 +80,6 @@ impl Turn {
         })
     }
 
-    /// The next member of this case.
-    fn next_member(self) -> Result<Turn, Stop> {
-        Ok(Turn {
-            case: self.case,
-            member: self.member.checked_add(1).ok_or(Stop::Alone)?,
-        })
-    }
-
     /// Whether this is the same turn.
     fn is(self, other: Turn) -> bool
         ensures { result ≡ true → self ≡ other }
@@ -113,19 +103,21 @@ impl Lanes {
     }
 
     /// Puts a stored member, of which this is known, after those that are there.
+    #[inline(always)]
     fn push(&mut self, turn: Turn, summary: Summary, stored: Stored, path: Path) -> Result<(), Stop>
         ensures turns { OnOk result (self.new.turns.items ≡ self.old.turns.items ++ turn ∷ []) }
         ensures members { OnOk result (self.new.members.items ≡ self.old.members.items
             ++ record { summary = summary; stored = Some stored; index = turn.member } ∷ []) }
         ensures paths { OnOk result (self.new.paths.items ≡ self.old.paths.items ++ path ∷ []) }
     {
-        self.turns.push(turn)?;
-        self.members.push(Member {
+        let member = Member {
             summary,
             stored: Some(stored),
             index: turn.member,
-        })?;
-        self.paths.push(path)?;
+        };
+        add(&mut self.turns, turn)?;
+        add(&mut self.members, member)?;
+        add(&mut self.paths, path)?;
         Ok(())
     }
 }
@@ -146,54 +138,55 @@ impl Looked {
         }
     }
 
-    /// What is known of the body for the next member, if that has this turn.
+    /// What is known of the body for the member with a number, if that has this turn.
     #[inline(always)]
-    fn at(&self, turn: Turn) -> Option<Summary>
+    fn at(&self, i: usize, turn: Turn) -> Option<&Summary>
         ensures { IfSome result (λ s. (l : ℕ)
             × (slice_get self.now.lanes.turns.items l ≡ Some turn)
-            × (known_at self.now.each l ≡ Some s)) }
+            × (known_at self.now.each l ≡ Some s.now)) }
     {
-        let own = self.lanes.turns.as_slice().get(self.next)?;
-        if own.is(turn) {
-            self.each.get(self.next).copied()
-        } else {
-            None
+        let own = self.lanes.turns.as_slice().get(i)?;
+        if own.is(turn) { self.each.get(i) } else { None }
+    }
+
+    /// Whether the next member has this turn.
+    #[inline(always)]
+    fn has(&self, turn: Turn) -> bool {
+        match self.lanes.turns.as_slice().get(self.next) {
+            Some(own) => own.is(turn),
+            None => false,
         }
     }
 }
 
 /// What is known of joined bodies with one more after `j` others; nothing where that is too heavy.
-fn joined_with(
-    op: LogicOp,
-    joined: &Summary,
-    next: &Summary,
-    j: usize,
-    room: Room,
-) -> Option<Summary>
-    ensures first { (m : Mode) (w : Value) → j ≡ 0 → IsSummary m next.now w
-        → IfSome result (λ s. IsSummary m s (connected_all op (w ∷ []))) }
-    ensures more { (m : Mode) (v w : Value) → 0 < j → IsSummary m joined.now v
-        → IsSummary m next.now w
-        → IfSome result (λ s. IsSummary m s (binary_value (Logic op) v w)) }
+#[inline(always)]
+fn joined_with(joined: &Summary, next: &Summary, j: usize, room: Room) -> Result<Summary, Stop>
+    ensures first { (m : Mode) (op : Connective) (w : Value) → j ≡ 0 → IsSummary m next.now w
+        → IfOk result (λ s. IsSummary m s (connected_all op (w ∷ []))) }
+    ensures more { (m : Mode) (op : Connective) (v w : Value) → 0 < j
+        → IsSummary m joined.now v → IsSummary m next.now w
+        → IfOk result (λ s. IsSummary m s (binary_value (Logic op) v w)) }
 {
     if j == 0 {
-        return Some(next.as_formula());
+        return Ok(next.as_formula());
     }
     if !room.holds(joined.weight, next.weight) {
-        return None;
+        return Err(Stop::Alone);
     }
-    Some(Summary::over_two(BinaryOp::Logic(op), joined, next))
+    Ok(joined.connected(next))
 }
 
 /// What is known of bodies together with one more; nothing where that is too heavy.
-fn gathered_with(bodies: &Summary, next: &Summary, room: Room) -> Option<Summary>
+#[inline(always)]
+fn gathered_with(bodies: &Summary, next: &Summary, room: Room) -> Result<Summary, Stop>
     ensures { (m : Mode) (vs : Seq Value) (w : Value) → IsGathered m bodies.now vs
-        → IsSummary m next.now w → IfSome result (λ s. IsGathered m s (vs ++ w ∷ [])) }
+        → IsSummary m next.now w → IfOk result (λ s. IsGathered m s (vs ++ w ∷ [])) }
 {
     if !room.holds(bodies.weight, next.weight) {
-        return None;
+        return Err(Stop::Alone);
     }
-    Some(bodies.with(next))
+    Ok(bodies.with(next))
 }
 
 impl Unfolding {
@@ -274,7 +267,7 @@ impl Unfolding {
         let mut all = Vec::with_capacity(self.alloc, cases.len())?;
         for i in 0..cases.len() {
             let found = self.joined_in(&over, op, i, &mut looked)?;
-            all.push(found)?;
+            add(&mut all, found)?;
         }
         Ok(Each::Own(all))
     }
@@ -302,8 +295,9 @@ impl Unfolding {
         let mut all = Summary::none();
         for j in 0..count {
             let turn = Turn { case: i, member: j };
-            let next = self.lane(over, turn, looked)?;
-            all = joined_with(op, &all, &next, j, over.room).ok_or(Stop::Alone)?;
+            let place = self.lane(over, turn, looked)?;
+            let next = looked.at(place, turn).ok_or(Stop::Alone)?;
+            all = joined_with(&all, next, j, over.room)?;
         }
         Ok(all)
     }
@@ -332,7 +326,7 @@ impl Unfolding {
         let mut all = Vec::with_capacity(self.alloc, cases.len())?;
         for i in 0..cases.len() {
             let found = self.counted_in(&over, op, number, i, &mut looked)?;
-            all.push(found)?;
+            add(&mut all, found)?;
         }
         Ok(Each::Own(all))
     }
@@ -361,8 +355,9 @@ impl Unfolding {
         let mut all = Summary::none();
         for j in 0..members {
             let turn = Turn { case: i, member: j };
-            let next = self.lane(over, turn, looked)?;
-            all = gathered_with(&all, &next, over.room).ok_or(Stop::Alone)?;
+            let place = self.lane(over, turn, looked)?;
+            let next = looked.at(place, turn).ok_or(Stop::Alone)?;
+            all = gathered_with(&all, next, over.room)?;
         }
         if members == 0 {
             return Ok(all);
@@ -414,11 +409,12 @@ impl Unfolding {
             let Some(stored) = self.held_members(*set).get(0) else {
                 return Err(Stop::Alone);
             };
-            all.push(Member {
+            let member = Member {
                 summary: self.held(*stored),
                 stored: Some(*stored),
                 index: 0,
-            })?;
+            };
+            add(&mut all, member)?;
         }
         Ok(all)
     }
@@ -436,26 +432,20 @@ impl Unfolding {
         true
     }
 
-    /// What is known of the body for a member of the set of a case, by what is known of several, or by a look at that
-    /// one and those after it.
+    /// The number among those that were looked at of the member of the set of a case: this one and those after it are looked at
+    /// where it isn't the next.
     #[cycle(each)]
-    fn lane(&self, over: &Over<'_>, turn: Turn, looked: &mut Looked) -> Result<Summary, Stop>
+    #[inline(always)]
+    fn lane(&self, over: &Over<'_>, turn: Turn, looked: &mut Looked) -> Result<usize, Stop>
         requires { AreLooked self.now over.now looked.old }
-        ensures looked { OnOk result (AreLooked self.now over.now looked.new) }
-        ensures found { IfOk result (λ s. (seen : Seen) × (l : ℕ)
-            × AreLooked self.now over.now seen
-            × (slice_get seen.lanes.turns.items l ≡ Some turn)
-            × (known_at seen.each l ≡ Some s)) }
+        ensures { OnOk result (AreLooked self.now over.now looked.new) }
     {
-        let found = match looked.at(turn) {
-            Some(found) => found,
-            None => {
-                *looked = self.look(over, turn)?;
-                looked.at(turn).ok_or(Stop::Alone)?
-            }
-        };
-        looked.next = looked.next.saturating_add(1);
-        Ok(found)
+        if !looked.has(turn) {
+            *looked = self.look(over, turn)?;
+        }
+        let place = looked.next;
+        looked.next = place.saturating_add(1);
+        Ok(place)
     }
 
     /// What is known of the bodies for members of the sets from a turn on, together.
@@ -485,25 +475,30 @@ impl Unfolding {
             if lanes.members.len() >= TOGETHER || turn.case >= over.cases.len() {
                 break;
             }
-            turn = self.add_lane(over, turn, &mut lanes)?;
+            self.add_case(over, turn, &mut lanes)?;
+            turn = turn.next_case()?;
         }
         Ok(lanes)
     }
 
-    /// Puts the member that is in turn after others, if there is one, and returns the next turn.
-    fn add_lane(&self, over: &Over<'_>, turn: Turn, lanes: &mut Lanes) -> Result<Turn, Stop>
+    /// Puts the members of a case from a turn on after others, as long as there is room.
+    fn add_case(&self, over: &Over<'_>, turn: Turn, lanes: &mut Lanes) -> Result<(), Stop>
         requires { AreLanes self.now over.now lanes.old }
         ensures { OnOk result (AreLanes self.now over.now lanes.new) }
     {
         let set = over.sets.get(turn.case).ok_or(Stop::Alone)?;
-        let Some(stored) = self.held_members(*set).get(turn.member) else {
-            return turn.next_case();
-        };
+        let members = self.held_members(*set);
         let path = over.cases.paths.get(turn.case).ok_or(Stop::Alone)?;
-        let path = path
-            .reaching(over.level, lanes.members.len())
-            .ok_or(Stop::Alone)?;
-        lanes.push(turn, self.held(*stored), *stored, path)?;
-        turn.next_member()
+        for member in turn.member..members.len() {
+            let count = lanes.members.len();
+            if count >= TOGETHER {
+                break;
+            }
+            let stored = members.get(member).ok_or(Stop::Alone)?;
+            let path = path.reaching(over.level, count).ok_or(Stop::Alone)?;
+            let turn = Turn { member, ..turn };
+            lanes.push(turn, self.held(*stored), *stored, path)?;
+        }
+        Ok(())
     }
 }

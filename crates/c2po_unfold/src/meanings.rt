@@ -1,10 +1,8 @@
-//! The names of a specification.
+//! Names with their meanings.
 
-ghost use Rattle.std.specs.Prelude.{◌≡◌, ◌++◌, ◌∷◌, [], None, Some, IfSome, OnOk};
-ghost use Rattle.mltl_base.specs.Tables.{entry_of};
+ghost use Rattle.std.specs.Prelude.{◌≡◌, ◌++◌, ◌∷◌, [], None, Some, IfSome, length, OnOk};
+ghost use Rattle.mltl_base.specs.Tables.{entry_of, is_named};
 
-use crate::unfolding::next_place;
-use crate::values::Entry;
 use mltl_base::{List, Name, NameTable};
 use std::alloc::{AllocError, Global};
 use std::marker::Model;
@@ -13,33 +11,32 @@ use std::mem;
 /// The number of places among which a name has one by its bytes.
 const PLACES: usize = 16_384;
 
-/// A name with its meaning.
+/// A name, and the number of names that were added before it.
 #[derive(Drop)]
-pub struct Declared {
+pub struct Numbered {
     pub name: Name,
-    pub entry: Entry,
+    pub number: usize,
 }
 
 /// Names with their meanings, which contracts see as a table. Most names are found without a search, at the place that
-/// their bytes give.
+/// their bytes give: chains of picked fields look up two names for each field.
 #[derive(Drop)]
-pub struct Meanings {
-    table: NameTable<Entry>,
-    declared: List<Declared>,
+pub struct Meanings<V> {
+    table: NameTable<V>,
+    names: List<Numbered>,
     /// At each place the index of the last name that has this place.
     places: Vec<u32>,
 }
 
-impl Model for Meanings {
+impl<V> Model for Meanings<V> {
     ghost use Rattle.mltl_base.specs.Tables.{Table};
-    ghost use Rattle.c2po_unfold.specs.declared.values.Entry.{Entry as Meaning};
-    ghost use Rattle.c2po_unfold.specs.Meanings.{AreDeclared};
+    ghost use Rattle.c2po_unfold.specs.Meanings.{ArePlaced};
 
-    ghost Value = { Table Meaning };
+    ghost Value = { Table V };
 
-    ghost view = { λ names. names.table };
+    ghost view = { λ meanings. meanings.table };
 
-    ghost invariant = { λ names. AreDeclared names.declared names.table };
+    ghost invariant = { λ meanings. ArePlaced meanings.names meanings.table };
 }
 
 /// The place that the bytes of a name give.
@@ -62,57 +59,76 @@ fn mark(places: &mut Vec<u32>, alloc: Global, name: &Name, index: u32) -> Result
     Ok(())
 }
 
-impl Meanings {
+impl<V> Meanings<V> {
     /// Makes the table without names. It does not allocate.
-    #[tactic(auto, using(crate::proofs::Finding::none_declared))]
-    pub fn new(alloc: Global) -> Meanings
+    #[tactic(auto, using(crate::proofs::Finding::none_placed))]
+    pub fn new(alloc: Global) -> Self
         ensures { result ≡ [] }
     {
         Meanings {
             table: NameTable::new(alloc),
-            declared: List::new(alloc),
+            names: List::new(alloc),
             places: Vec::new(alloc),
         }
     }
 
+    /// The number of names.
+    pub fn len(&self) -> usize
+        ensures { result ≡ length self.now }
+    {
+        self.table.len()
+    }
+
+    /// Whether a name is there.
+    pub fn contains(&self, name: &Name) -> bool
+        ensures { result ≡ is_named name.now self.now }
+    {
+        self.table.contains(name)
+    }
+}
+
+impl<V: Copy> Meanings<V> {
     /// Returns the meaning of a name.
-    pub fn find(&self, name: &Name) -> Option<Entry>
+    pub fn find(&self, name: &Name) -> Option<V>
         ensures { result ≡ entry_of name.now self.now }
     {
         match self.near(name) {
-            Some(entry) => Some(entry),
+            Some(meaning) => Some(meaning),
             None => self.table.find(name),
         }
     }
 
     /// The meaning of a name that is the last one at its place.
-    fn near(&self, name: &Name) -> Option<Entry>
-        ensures { IfSome result (λ entry. entry_of name.now self.now ≡ Some entry) }
+    fn near(&self, name: &Name) -> Option<V>
+        ensures { IfSome result (λ meaning. entry_of name.now self.now ≡ Some meaning) }
     {
         let index = *self.places.get(place_of(name))?;
-        let declared = self.declared.as_slice().get(index as usize)?;
-        if declared.name.bytes() == name.bytes() {
-            Some(declared.entry)
+        let own = self.names.as_slice().get(index as usize)?;
+        if own.name.bytes() == name.bytes() {
+            Some(self.table.value_at(own.number))
         } else {
             None
         }
     }
+}
 
+impl<V: Drop> Meanings<V> {
     /// Puts a name after the others, where it isn't among them.
-    #[tactic(auto, using(crate::proofs::Finding::none_declared))]
-    pub fn add(&mut self, alloc: Global, name: &Name, entry: Entry) -> Result<(), AllocError>
+    #[tactic(auto, using(crate::proofs::Finding::none_placed))]
+    pub fn add(&mut self, alloc: Global, name: &Name, meaning: V) -> Result<(), AllocError>
         requires { entry_of name.now self.old ≡ None }
-        ensures added { OnOk result (self.new ≡ self.old ++ (name.now, entry) ∷ []) }
+        ensures added { OnOk result (self.new ≡ self.old ++ (name.now, meaning) ∷ []) }
     {
-        let index = next_place(self.declared.len())?;
+        let number = self.table.len();
+        let index = u32::try_from(self.names.len()).map_err(|_| AllocError)?;
         mark(&mut self.places, alloc, name, index)?;
-        let mut declared = mem::replace(&mut self.declared, List::new(alloc));
-        self.table.add(alloc, name, entry)?;
-        declared.push(Declared {
+        let mut names = mem::replace(&mut self.names, List::new(alloc));
+        self.table.add(alloc, name, meaning)?;
+        names.push(Numbered {
             name: name.copy(),
-            entry,
+            number,
         })?;
-        self.declared = declared;
+        self.names = names;
         Ok(())
     }
 }

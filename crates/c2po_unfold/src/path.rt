@@ -4,7 +4,7 @@ ghost use Rattle.std.specs.Prelude.{true, ◌≡◌, ◌+◌, ◌*◌, ◌%◌, 
 ghost use Rattle.c2po_unfold.specs.Cases.{HasReached, IsReached, path_of};
 ghost use Rattle.c2po_unfold.specs.declared.path.Path.{Path as CasePath};
 
-use crate::each::Stop;
+use crate::each::{Stop, add};
 use std::alloc::Global;
 
 /// How many numbers a path has at most.
@@ -14,7 +14,7 @@ const LEVELS: usize = 15;
 #[derive(Clone, Copy)]
 pub struct Path {
     numbers: [u8; LEVELS],
-    count: usize,
+    count: u8,
 }
 
 impl Path {
@@ -27,8 +27,11 @@ impl Path {
     }
 
     /// How many numbers it has.
-    pub(crate) fn len(&self) -> usize {
-        self.count
+    #[inline(always)]
+    pub(crate) fn len(&self) -> usize
+        ensures { result ≡ self.now.count }
+    {
+        usize::from(self.count)
     }
 
     /// The number at a level, if there is one.
@@ -36,7 +39,7 @@ impl Path {
     pub(crate) fn at(&self, level: usize) -> Option<usize>
         ensures { IfSome result (λ number. slice_get (path_of self.now) level ≡ Some number) }
     {
-        if level >= self.count {
+        if level >= self.len() {
             return None;
         }
         let number = self.numbers.get(level)?;
@@ -68,17 +71,18 @@ impl Path {
     }
 
     /// The path with one number more, which is at this level.
+    #[inline(always)]
     fn with(&self, level: usize, number: usize) -> Option<Path>
         ensures { IfSome result (λ r. IsReached (path_of self.now) (path_of r) level number) }
     {
-        if level != self.count || level >= LEVELS {
+        if level != self.len() || level >= LEVELS {
             return None;
         }
         let mut numbers = self.numbers;
         numbers[level] = u8::try_from(number).ok()?;
         Some(Path {
             numbers,
-            count: level + 1,
+            count: self.count + 1,
         })
     }
 }
@@ -154,7 +158,7 @@ impl<'a> Cases<'a> {
         for l in 0..all {
             let path = self.paths.get(turn(l, self.len())).ok_or(Stop::Alone)?;
             let path = path.reaching(level, l).ok_or(Stop::Alone)?;
-            paths.push(path)?;
+            add(&mut paths, path)?;
         }
         Ok(paths)
     }

@@ -91,16 +91,16 @@ impl<'a> Choice<'a> {
 
     /// What a column has for the member that a case chooses, if that is stored.
     #[inline(always)]
-    pub(crate) fn found(self, path: &Path, rows: &[Row]) -> Option<Stored>
+    pub(crate) fn found<'b>(self, path: &Path, rows: &'b [Row]) -> Option<&'b Stored>
         ensures { (m : Mode) (u : Unfolding) (w v : Value)
             → IsVaried (chosen m (path_of path.now)) u self.entry w → RowsLead u rows.now w v
-            → IfSome result (λ s. Holds u s v) }
+            → IfSome result (λ s. Holds u s.now v) }
     {
         let member = self.member(path)?;
         let stored = member.stored?;
         let row = rows.get(member.index)?;
         if row.member.is(stored) {
-            Some(row.found)
+            Some(&row.found)
         } else {
             None
         }
@@ -144,6 +144,14 @@ pub enum Head<'a> {
     Covered(&'a Summary),
     /// A value that differs from case to case.
     Varied(Choice<'a>),
+}
+
+impl Head<'_> {
+    /// Whether this is a struct's value or a set that is written out.
+    #[inline(always)]
+    pub(crate) fn is_written(&self) -> bool {
+        matches!(self, Head::Struct(..) | Head::Set(..))
+    }
 }
 
 impl<'a> Scope<'a> {

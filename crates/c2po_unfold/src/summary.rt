@@ -1,11 +1,13 @@
 //! What is known of values without their nodes.
 
 ghost use Rattle.std.specs.Prelude.{◌≡◌, ◌+◌, ◌<◌, ◌≤◌, ◌^◌, ℕ, true, List as Seq, [], ◌∷◌, ◌++◌, Some, IfOk, IfErr};
+ghost use Rattle.mltl_base.specs.declared.operators.CompareOp.{CompareOp};
 ghost use Rattle.mltl_base.specs.declared.operators.CountOp.{CountOp};
 ghost use Rattle.mltl_base.specs.declared.operators.LogicOp.{LogicOp};
 ghost use Rattle.c2po_unfold.specs.Covering.{Mode, Says, covering};
 ghost use Rattle.c2po_unfold.specs.Facts.{Tells};
 ghost use Rattle.c2po_unfold.specs.declared.fault.UnfoldFault.TheVariants.{Heavy};
+ghost use Rattle.c2po_unfold.specs.declared.operators.BinaryOp.TheVariants.{Compare, Logic};
 ghost use Rattle.c2po_unfold.specs.Environment.{signal_value};
 ghost use Rattle.c2po_unfold.specs.Operators.{binary_value, unary_value};
 ghost use Rattle.c2po_unfold.specs.Ahead.{IsGathered};
@@ -127,6 +129,36 @@ impl Summary {
         let fact = unary_fact(op, &a.fact);
         Summary {
             weight: a.weight + 1,
+            fact,
+        }
+    }
+
+    /// Returns what is known of two formulas under a connective.
+    #[inline(always)]
+    pub(crate) fn connected(&self, other: &Summary) -> Summary
+        requires { self.now.weight + other.now.weight + 1 < 2 ^ 32 }
+        ensures weight { result.weight ≡ self.now.weight + other.now.weight + 1 }
+        ensures holds { (m : Mode) (op : LogicOp) (v w : Value) → IsSummary m self.now v
+            → IsSummary m other.now w → IsSummary m result (binary_value (Logic op) v w) }
+    {
+        let fact = Fact::joined(&self.fact, &other.fact);
+        Summary {
+            weight: self.weight + other.weight + 1,
+            fact,
+        }
+    }
+
+    /// Returns what is known of a comparison of two integers.
+    #[inline(always)]
+    pub(crate) fn compared(&self, other: &Summary) -> Summary
+        requires { self.now.weight + other.now.weight + 1 < 2 ^ 32 }
+        ensures weight { result.weight ≡ self.now.weight + other.now.weight + 1 }
+        ensures holds { (m : Mode) (op : CompareOp) (v w : Value) → IsSummary m self.now v
+            → IsSummary m other.now w → IsSummary m result (binary_value (Compare op) v w) }
+    {
+        let fact = Fact::compared(&self.fact, &other.fact);
+        Summary {
+            weight: self.weight + other.weight + 1,
             fact,
         }
     }

@@ -23,7 +23,7 @@ ghost use Rattle.c2po_unfold.specs.Weights.{parts_weight, weight};
 use crate::counting::{counted_fact, gates_weight};
 use crate::fact::Fact;
 use crate::fault::deeper;
-use crate::known::{BodyFact, Known, Way, held_in, kind_in};
+use crate::known::{BodyFact, Known, Way, kind_in};
 use crate::operators::{BinaryOp, UnaryOp};
 use crate::resolved::{Quantified, Resolved};
 use crate::room::Room;
@@ -425,7 +425,7 @@ impl Unfolding {
     }
 
     /// What is known of the body of a quantifier where its variable is member `i` of its set, which isn't one of those
-    /// that were checked together: what was known of the last one, if that is so for the member.
+    /// that were checked together. One that is written out is checked by itself.
     #[cycle(summing)]
     fn next_body(
         &self,
@@ -450,52 +450,83 @@ impl Unfolding {
             → IfErr result (λ why. why ≡ Heavy → room < weight (resolved_body bodies.entry env v)) }
     {
         let head = self.member(at.depth, set, i)?;
-        if self.is_known(&known.last, &head) {
-            let summary = known.last.summary();
-            room.less(summary.weight)?;
+        if head.is_written() {
+            known.way = Way::alone();
+            return self.own_body(at, bodies, &head, i, room);
+        }
+        if let Some(summary) = self.like_others(at, bodies, set, i, &head, known, room)? {
             return Ok(summary);
         }
-        if let Some(summary) = self.shared_body(at, bodies, set, i, &head, known, room)? {
-            return Ok(summary);
-        }
-        if let Some(summary) = self.like_body(at, bodies, set, i, &head, known, room)? {
-            return Ok(summary);
-        }
-        let last = self.own_body(at, bodies, set, i, room)?;
+        let own = self.own_body(at, bodies, &head, i, room)?;
+        let last = BodyFact::of(&head, own);
         let summary = last.summary();
         known.last = last;
         Ok(summary)
     }
 
-    /// What is known of the body of a quantifier where its variable is what member `i` of its set leads to.
+    /// What is known of the body of a quantifier where its variable is member `i` of its set, without a look at that body
+    /// alone: what was known of the last one, if that is so for the member, else by those that are like it.
     #[cycle(summing)]
-    fn own_body(
+    #[inline(never)]
+    fn like_others(
         &self,
         at: Site<'_>,
         bodies: Quantified<'_>,
         set: &Head<'_>,
         i: usize,
+        head: &Head<'_>,
+        known: &mut Known,
         room: Room,
-    ) -> Result<BodyFact, UnfoldFault>
-        ensures light { IfOk result (λ r. r.summary.weight ≤ room) }
+    ) -> Result<Option<Summary>, UnfoldFault>
+        requires { AreKnown self.now at.scope.now bodies set.now known.old }
+        ensures light { IfOk result (λ r. IfSome r (λ s. s.weight ≤ room)) }
         ensures holds { (m : Mode) (base env : Env) (s v : Value)
             → MeetsBody m self.now base at.entry.scope.now env bodies.entry
             → Heads m self.now base set.now s → slice_get (members s) i ≡ Some v
-            → IfOk result (λ r. IsSummary m r.summary (resolved_body bodies.entry env v)) }
-        ensures known { IfOk result (λ r. IsOfBody self.now at.entry.scope.now bodies.entry r) }
+            → Heads m self.now base head.now v
+            → IfOk result (λ r. IfSome r (λ k. IsSummary m k (resolved_body bodies.entry env v))) }
+        ensures known { OnOk result
+            (AreKnown self.now at.entry.scope.now bodies.entry set.now known.new) }
         ensures heavy { (m : Mode) (base env : Env) (s v : Value)
             → MeetsBody m self.now base at.entry.scope.now env bodies.entry
             → Heads m self.now base set.now s → slice_get (members s) i ≡ Some v
+            → Heads m self.now base head.now v
             → IfErr result (λ why. why ≡ Heavy → room < weight (resolved_body bodies.entry env v)) }
     {
-        let head = self.member(at.depth, set, i)?;
-        let scope = &Scope::bound(&*bodies.name, head, i, &*at.scope);
-        let summary = self.summary(Site { scope, ..at }, bodies.body, room)?;
-        Ok(BodyFact {
-            member: held_in(&head),
-            cover: None,
-            summary,
-        })
+        if self.is_known(&known.last, head) {
+            let summary = known.last.summary();
+            room.less(summary.weight)?;
+            return Ok(Some(summary));
+        }
+        if let Some(summary) = self.shared_body(at, bodies, set, i, head, known, room)? {
+            return Ok(Some(summary));
+        }
+        self.like_body(at, bodies, set, i, head, known, room)
+    }
+
+    /// What is known of the body of a quantifier where its variable is what a member of its set leads to, which is member
+    /// `i` where it is stored.
+    #[cycle(summing)]
+    fn own_body(
+        &self,
+        at: Site<'_>,
+        bodies: Quantified<'_>,
+        head: &Head<'_>,
+        i: usize,
+        room: Room,
+    ) -> Result<Summary, UnfoldFault>
+        ensures light { IfOk result (λ s. s.weight ≤ room) }
+        ensures holds { (m : Mode) (base env : Env) (v : Value)
+            → MeetsBody m self.now base at.entry.scope.now env bodies.entry
+            → Heads m self.now base head.now v
+            → IfOk result (λ s. IsSummary m s (resolved_body bodies.entry env v)) }
+        ensures heavy { (m : Mode) (base env : Env) (v : Value)
+            → MeetsBody m self.now base at.entry.scope.now env bodies.entry
+            → Heads m self.now base head.now v
+            → IfErr result (λ why. why ≡ Heavy → room < weight (resolved_body bodies.entry env v)) }
+    {
+        let scope = &Scope::bound(&*bodies.name, *head, i, &*at.scope);
+        self.summary(Site { scope, ..at }, bodies.body, room)
     }
 
     /// What is known of the body of a quantifier where its variable is what member `i` of its set leads to, and where

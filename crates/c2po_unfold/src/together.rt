@@ -25,7 +25,7 @@ ghost use Rattle.c2po_unfold.specs.Values.{Value, connected_all, counted, member
 ghost use Rattle.c2po_unfold.specs.declared.path.Path.{Path as CasePath};
 
 use crate::counting::Counting;
-use crate::each::{Each, Stop};
+use crate::each::{Each, Stop, add};
 use crate::fact::Fact;
 use crate::fault::deeper;
 use crate::known::Ahead;
@@ -242,11 +242,12 @@ impl Unfolding {
             let j = round(i, count);
             let stored = members.get(j).ok_or(Stop::Alone)?;
             let index = start.checked_add(j).ok_or(Stop::Alone)?;
-            varied.push(Member {
+            let member = Member {
                 summary: self.held(*stored),
                 stored: Some(*stored),
                 index,
-            })?;
+            };
+            add(&mut varied, member)?;
         }
         Ok(varied)
     }
@@ -261,7 +262,7 @@ impl Unfolding {
         let mut all = Vec::with_capacity(self.alloc, cases.len())?;
         for path in cases.paths {
             let member = choice.member(path).ok_or(Stop::Alone)?;
-            all.push(member.summary)?;
+            add(&mut all, member.summary)?;
         }
         Ok(Each::Own(all))
     }
@@ -276,7 +277,7 @@ impl Unfolding {
         let mut all = Vec::with_capacity(self.alloc, cases.len())?;
         for path in cases.paths {
             let found = choice.found(path, rows).ok_or(Stop::Alone)?;
-            all.push(self.held(found))?;
+            add(&mut all, self.held(*found))?;
         }
         Ok(Each::Own(all))
     }
@@ -558,10 +559,12 @@ impl Unfolding {
         ensures { IfOk result (λ r. AreListed self.now at.entry.scope.now cases.entry.paths.now
             es.now (length es.now) r.items) }
     {
-        let mut all = Vec::new(self.alloc);
+        let n = cases.len();
+        let count = n.checked_mul(es.len()).ok_or(Stop::Alone)?;
+        let mut all = Vec::with_capacity(self.alloc, count)?;
         for e in es {
             let each = self.each(at, cases, e, room)?;
-            each.list(cases.len(), &mut all)?;
+            each.list(n, &mut all)?;
         }
         Ok(all)
     }

@@ -12,7 +12,7 @@ ghost use Rattle.c2po_unfold.specs.Scopes.{FitsIn, MeetsIn, names_of};
 ghost use Rattle.c2po_unfold.specs.Values.{Value, picked};
 
 use crate::Unfolding;
-use crate::each::{Each, Stop};
+use crate::each::{Each, Stop, add};
 use crate::fault::deeper;
 use crate::path::Cases;
 use crate::resolved::{Hint, Resolved, Row};
@@ -44,7 +44,7 @@ impl Unfolding {
     {
         let mut all = Vec::with_capacity(self.alloc, values.len())?;
         for stored in values {
-            all.push(self.held(*stored))?;
+            add(&mut all, self.held(*stored))?;
         }
         Ok(Each::Own(all))
     }
@@ -95,7 +95,7 @@ impl Unfolding {
     {
         let mut all = Vec::with_capacity(self.alloc, cases.len())?;
         for _path in cases.paths {
-            all.push(stored)?;
+            add(&mut all, stored)?;
         }
         Ok(all)
     }
@@ -110,7 +110,7 @@ impl Unfolding {
         let mut all = Vec::with_capacity(self.alloc, cases.len())?;
         for path in cases.paths {
             let member = choice.member(path).ok_or(Stop::Alone)?;
-            all.push(member.stored.ok_or(Stop::Alone)?)?;
+            add(&mut all, member.stored.ok_or(Stop::Alone)?)?;
         }
         Ok(all)
     }
@@ -130,7 +130,8 @@ impl Unfolding {
     {
         let mut all = Vec::with_capacity(self.alloc, cases.len())?;
         for path in cases.paths {
-            all.push(choice.found(path, rows).ok_or(Stop::Alone)?)?;
+            let found = choice.found(path, rows).ok_or(Stop::Alone)?;
+            add(&mut all, *found)?;
         }
         Ok(all)
     }
@@ -151,7 +152,7 @@ impl Unfolding {
     {
         let mut all = Vec::with_capacity(self.alloc, wholes.len())?;
         for whole in wholes {
-            all.push(self.held_part(scope, *whole, field, hint))?;
+            add(&mut all, self.held_part(scope, *whole, field, hint))?;
         }
         Ok(all)
     }

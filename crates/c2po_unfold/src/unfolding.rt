@@ -36,7 +36,7 @@ const DEPTH: u32 = u32::MAX;
 pub struct Unfolding {
     /// Where what is known of bodies is allocated while they are checked.
     pub(crate) alloc: Global,
-    pub(crate) names: Meanings,
+    pub(crate) names: Meanings<Entry>,
     pub(crate) structs: List<Fields>,
     pub(crate) parts: List<Parts>,
     /// What is known of the integers and the formulas among the values.

@@ -1,6 +1,5 @@
 pub mod Asking
 pub mod Gates
-pub mod Finding
 pub mod Growing
 pub mod Heading
 pub mod Joining

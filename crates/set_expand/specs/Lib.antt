@@ -1,7 +1,6 @@
 pub mod Counts
 pub mod Heads
 pub mod Light
-pub mod Meanings
 pub mod Names
 pub mod Nodes
 pub mod Unfolded

@@ -15,7 +15,6 @@ pub mod expanding;
 pub mod formulas;
 pub mod heads;
 pub mod items;
-pub mod meanings;
 pub mod names;
 pub mod nodes;
 pub mod plan;

@@ -10,11 +10,11 @@ ghost use Rattle.set_expand.specs.Heads.{NamedBelow, named_meaning};
 ghost use Rattle.set_expand.specs.Nodes.{HaveNodes, IsKept, MadeAs, NamedKept};
 ghost use Rattle.set_expand.specs.Names.{EntryBelow, HasFields, IsEarly, SignalsBelow, env_now, env_of, meaning, with_name};
 
-use crate::meanings::Meanings;
 use crate::nodes::Made;
 use crate::scope::{Named, Scope};
 use c2po_ast::{Expr, FieldDecl, field_names};
 use c2po_unfold::fields::Fields;
+use c2po_unfold::meanings::Meanings;
 use mltl_base::{List, Name};
 use std::alloc::{AllocError, Global};
 use std::marker::Model;
@@ -40,7 +40,7 @@ pub struct Declared<'a> {
 /// The names of a specification in the order of declaration, which contracts see as a table of these.
 #[derive(Drop)]
 pub struct Names<'a> {
-    table: Meanings<'a>,
+    table: Meanings<Declared<'a>>,
     structs: List<Fields>,
 }
 
@@ -63,7 +63,7 @@ impl<'a> Model for Names<'a> {
 
 /// Puts a name after the others, unless it is there.
 fn put<'a>(
-    table: &mut Meanings<'a>,
+    table: &mut Meanings<Declared<'a>>,
     alloc: Global,
     name: &Name,
     entry: Entry<'a>,

@@ -12,8 +12,8 @@ returns-in-Same c = λ m op i v inside h.
     (c.as_formula.result, refl, c.as_formula.ensures.holds m op v (known_here m (Same c.in-Same.body) i v c.in-Same.body g refl))
 
 pub loop-i-preserved : goal.loop-i-preserved
-loop-i-preserved c = known_more (OfFirst c.args.body.now) c.loop-i.i c.loop-i.all.items c.push.new.self.items c.as_formula-in-loop-i.result
-    c.loop-i.invariant c.in_ok-push.ensures.items
+loop-i-preserved c = known_more (OfFirst c.args.body.now) c.loop-i.i c.loop-i.all.items c.add.new.all.items c.as_formula-in-loop-i.result
+    c.loop-i.invariant c.in_ok-add.ensures
     (λ m v h. subst (IsSummary m c.as_formula-in-loop-i.result) (sym h.3)
     (c.as_formula-in-loop-i.ensures.holds m h.0 h.1 (known_here m c.args.body.now c.loop-i.i h.1 c.in-Some.body.now h.2 c.in-Some.ensures)))
 

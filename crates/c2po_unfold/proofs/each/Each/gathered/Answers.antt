@@ -14,8 +14,8 @@ returns-in-Same-Same c = λ m i vs w inside h k. (
 )
 
 pub loop-i-preserved : goal.loop-i-preserved
-loop-i-preserved c = known_more (OfMore c.args.bodies.now c.args.next.now c.args.from) c.loop-i.i c.loop-i.all.items c.push.new.self.items
-    c.with-in-loop-i.result c.loop-i.invariant c.in_ok-push.ensures.items
+loop-i-preserved c = known_more (OfMore c.args.bodies.now c.args.next.now c.args.from) c.loop-i.i c.loop-i.all.items c.add.new.all.items
+    c.with-in-loop-i.result c.loop-i.invariant c.in_ok-add.ensures
     (λ m vs h. subst (IsGathered m c.with-in-loop-i.result) (sym h.4)
     (c.with-in-loop-i.ensures m h.0 h.1
     (gathered_here m c.args.bodies.now c.loop-i.i h.0 c.in-Some.a.now h.2 c.in-Some.ensures)

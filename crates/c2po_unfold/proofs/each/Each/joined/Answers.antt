@@ -6,10 +6,10 @@ use Rattle.c2po_unfold.proofs.Several.{OfNext, known_here, known_more}
 use Rattle.c2po_unfold.proofs.each.Each.joined.Goals as goal
 
 pub loop-i-preserved : goal.loop-i-preserved
-loop-i-preserved c = known_more (OfNext c.args.op c.args.joined.now c.args.next.now c.args.from) c.loop-i.i c.loop-i.all.items c.push.new.self.items
-    c.over_two-in-loop-i.result c.loop-i.invariant c.in_ok-push.ensures.items
-    (λ m v h. subst (IsSummary m c.over_two-in-loop-i.result) (sym h.4)
-    (c.over_two-in-loop-i.ensures.holds m h.0 h.1
+loop-i-preserved c = known_more (OfNext c.args.op c.args.joined.now c.args.next.now c.args.from) c.loop-i.i c.loop-i.all.items c.add.new.all.items
+    c.connected-in-loop-i.result c.loop-i.invariant c.in_ok-add.ensures
+    (λ m v h. subst (IsSummary m c.connected-in-loop-i.result) (sym h.4)
+    (c.connected-in-loop-i.ensures.holds m c.args.op h.0 h.1
     (known_here m c.args.joined.now c.loop-i.i h.0 c.in-Some.a.now h.2 c.in-Some.ensures)
     (known_here m c.args.next.now (c.loop-i.i + c.args.from) h.1 c.in-Some-get.b.now h.3 (search rules))))
 

@@ -5,8 +5,8 @@ use Rattle.c2po_unfold.proofs.Several.{OverTwo, known_here, known_more}
 use Rattle.c2po_unfold.proofs.each.Each.zipped.Goals as goal
 
 pub loop-i-preserved : goal.loop-i-preserved
-loop-i-preserved c = known_more (OverTwo c.args.op c.args.a.now c.args.b.now) c.loop-i.i c.loop-i.all.items c.push.new.self.items c.over_two.result
-    c.loop-i.invariant c.in_ok-push.ensures.items
+loop-i-preserved c = known_more (OverTwo c.args.op c.args.a.now c.args.b.now) c.loop-i.i c.loop-i.all.items c.add.new.all.items c.over_two.result
+    c.loop-i.invariant c.in_ok-add.ensures
     (λ m v h. subst (IsSummary m c.over_two.result) (sym h.4)
     (c.over_two.ensures.holds m h.0 h.1
     (known_here m c.args.a.now c.loop-i.i h.0 c.in-Some.a.now h.2 c.in-Some.ensures)

@@ -1,9 +1,9 @@
-use Rattle.std.proofs.Common.{rules, FitsSigned, w64, ℕ, ◌≡◌, ◌+◌, ◌-◌, ◌*◌, ◌<◌, ◌≤◌, List, Bor, Some, IfOk, IfSome, refl, sym, subst, ap, ◌∙◌, length, get_or, slice_get, take, false, arith, [], ◌∷◌, ◌++◌}
+use Rattle.std.proofs.Common.{rules, FitsSigned, w64, ℕ, ◌≡◌, ◌+◌, ◌-◌, ◌*◌, ◌<◌, ◌≤◌, List, Bor, Some, IfOk, IfSome, refl, sym, subst, ap, ◌∙◌, length, get_or, slice_get, take, false, arith, []}
 use Rattle.std.proofs.lemmas.Int.{to_z-of_z}
 use Rattle.mltl_base.specs.declared.operators.LogicOp.TheVariants.{And}
 use Rattle.mltl_base.specs.Atoms.{constant}
 use Rattle.c2po_nodes.specs.Nodes.{number}
-use Rattle.c2po_unfold.specs.Ahead.{GatheredFor, HasMember, HoldsFor, IsAheadIn, IsListed, KnownFor, IsGathered, known_at}
+use Rattle.c2po_unfold.specs.Ahead.{GatheredFor, HasMember, HoldsFor, IsAheadIn, IsListed, KnownFor, IsGathered}
 use Rattle.c2po_unfold.specs.Cases.{chosen, path_of}
 use Rattle.c2po_unfold.specs.Environment.{bind, value_in}
 use Rattle.c2po_unfold.specs.Facts.{Tells}
@@ -24,12 +24,10 @@ use Rattle.c2po_unfold.specs.declared.resolved.Resolved.{Resolved, Truth}
 use Rattle.std.proofs.lemmas.Option.{same_Some, slice_get-get_or, slice_get_within}
 use Rattle.c2po_unfold.specs.declared.known.Ahead.{Ahead}
 use Rattle.c2po_unfold.specs.declared.values.Stored.{Stored}
-use Rattle.c2po_unfold.specs.declared.operators.BinaryOp.TheVariants.{Logic}
 use Rattle.c2po_unfold.specs.declared.summary.Summary.{Summary}
-use Rattle.c2po_unfold.specs.Operators.{binary_value}
 use Rattle.c2po_unfold.proofs.Lanewise.{IsAt, OfLanes, all_bodies, gathered_lanes_more, joined_lanes_more, lane_count, lanes_known}
 use Rattle.c2po_unfold.proofs.unfolding.Unfolding.+each.Goals as goal
-use Rattle.c2po_unfold.proofs.unfolding.Unfolding.+each.Goals.{each_gathered-then-i-ahead+in_ok-ahead, each_gathered-else-i-ahead, each_joined-then-i-ahead+in_ok-ahead-2, each_joined-else-i-ahead, lane-in-Some, lane-in-None+in_ok-looked-in-None+in_ok-found-in-None}
+use Rattle.c2po_unfold.proofs.unfolding.Unfolding.+each.Goals.{each_gathered-then-i-ahead+in_ok-ahead, each_gathered-else-i-ahead, each_joined-then-i-ahead+in_ok-ahead-2, each_joined-else-i-ahead}
 
 pub each_of-returns-in_ok-token-in-Number : goal.each_of-returns-in_ok-token-in-Number
 each_of-returns-in_ok-token-in-Number t c = λ m base env i p inside h.
@@ -269,7 +267,7 @@ pub listed-loop-e-preserved : goal.listed-loop-e-preserved
 listed-loop-e-preserved t c =
     are_listed_more c.args.self.now c.args.at.scope.now c.args.cases.paths.now c.args.es.now c.loop-e.e-index c.e-item.result c.loop-e.all.items c.list.new.all.items
     c.in_ok-each.each c.loop-e.invariant (found_at c.args.es.now c.args.es.now c.loop-e.e-index c.e-item.result refl c.loop-e-test.true c.e-item.is)
-    (subst (λ n. IsListed c.in_ok-each.each n c.loop-e.all.items c.list.new.all.items) c.len.ensures c.in_ok-list.ensures)
+    (subst (λ n. IsListed c.in_ok-each.each n c.loop-e.all.items c.list.new.all.items) c.len-n.ensures c.in_ok-list.ensures)
     (λ m base env i p inside h. c.in_ok-each.ensures m base env i p inside h)
 
 pub held_bodies-returns-clause-ahead : goal.held_bodies-returns-clause-ahead
@@ -340,17 +338,6 @@ look-returns t c = record {
       (subst (λ ms. HasMember m u ms l v) (sym c.as_slice-members.ensures.value) found.1);
 }
 
-pub lane-returns-clause-found : goal.lane-returns-clause-found
-lane-returns-clause-found t c = elim c.match-at.branch [
-  | lane-in-Some w ↦
-      let h = w.in-Some.ensures in
-      (c.args.looked.now, h.0, c.requires, h.1, subst (λ s. known_at c.args.looked.now.each h.0 ≡ Some s) (sym w.found-is) h.2)
-  | lane-in-None+in_ok-looked-in-None+in_ok-found-in-None w ↦
-      let seen = w.in_ok-looked-in-None.field-0 in
-      let h = subst (λ o. IfSome o (IsAt seen c.args.turn)) w.in_ok-found-in-None.ensures.ok_part w.at-in-None.ensures in
-      (seen, h.0, w.in_ok-looked-in-None.ensures, h.1, subst (λ s. known_at seen.each h.0 ≡ Some s) (sym w.found-is) h.2)
-]
-
 pub joined_in-loop-j-init : goal.joined_in-loop-j-init
 joined_in-loop-j-init t c = record { looked = c.requires; holds = λ m base env p s there meets holds. c.none-all.ensures.joined m c.args.op }
 
@@ -359,16 +346,17 @@ joined_in-loop-j-preserved t c =
     let u = c.args.self.now in
     let over = c.args.over.now in
     let set = lent_at over.sets.now c.args.i c.get.result c.in_ok-set.set c.get.ensures.lookup c.in_ok-set.ensures.ok_part in
-    joined_lanes_more u over c.args.op c.args.i c.loop-j.j c.loop-j.all c.in_ok-all.all c.in_ok-next.next c.loop-j.looked c.lane.new.looked c.loop-j.invariant
-    c.in_ok-next.ensures.looked c.in_ok-next.ensures.found
+    let now = c.lane.new.looked in
+    let found = subst (λ o. IfSome o (λ (s : Bor Summary). IsAt now (record { case = c.args.i; member = c.loop-j.j }) s.now)) c.in_ok-next.ensures.ok_part c.at.ensures in
+    joined_lanes_more u over c.args.op c.args.i c.loop-j.j c.loop-j.all c.in_ok-all.all c.in_ok-next.next.now c.loop-j.looked now c.loop-j.invariant
+    c.in_ok-place.ensures (now, found.0, c.in_ok-place.ensures, found.1, found.2)
     (λ s holds. omega (
       arith,
       c.loop-j-test.true,
       lane_count u over.sets.now c.held_members-count.result.now c.args.i c.in_ok-set.set.now s set c.held_members-count.ensures holds,
     ))
-    (λ m w none h. subst (λ o. IfSome o (λ (s : Summary). IsSummary m s (connected_all c.args.op (w ∷ [])))) c.in_ok-all.ensures.ok_part (c.joined_with.ensures.first m w none h))
-    (λ m v w some h k. subst (λ o. IfSome o (λ (s : Summary). IsSummary m s (binary_value (Logic c.args.op) v w))) c.in_ok-all.ensures.ok_part
-    (c.joined_with.ensures.more m v w some h k))
+    (λ m w none h. c.in_ok-all.ensures.first m c.args.op w none h)
+    (λ m v w some h k. c.in_ok-all.ensures.more m c.args.op v w some h k)
 
 pub joined_in-returns-clause-holds : goal.joined_in-returns-clause-holds
 joined_in-returns-clause-holds t c = λ m base env p s there meets holds.
@@ -391,14 +379,16 @@ counted_in-loop-j-preserved t c =
     let u = c.args.self.now in
     let over = c.args.over.now in
     let set = lent_at over.sets.now c.args.i c.get.result c.in_ok-set.set c.get.ensures.lookup c.in_ok-set.ensures.ok_part in
-    gathered_lanes_more u over c.args.i c.loop-j.j c.loop-j.all c.in_ok-all.all c.in_ok-next.next c.loop-j.looked c.lane.new.looked c.loop-j.invariant
-    c.in_ok-next.ensures.looked c.in_ok-next.ensures.found
+    let now = c.lane.new.looked in
+    let found = subst (λ o. IfSome o (λ (s : Bor Summary). IsAt now (record { case = c.args.i; member = c.loop-j.j }) s.now)) c.in_ok-next.ensures.ok_part c.at.ensures in
+    gathered_lanes_more u over c.args.i c.loop-j.j c.loop-j.all c.in_ok-all.all c.in_ok-next.next.now c.loop-j.looked now c.loop-j.invariant
+    c.in_ok-place.ensures (now, found.0, c.in_ok-place.ensures, found.1, found.2)
     (λ s holds. omega (
       arith,
       c.loop-j-test.true,
       lane_count u over.sets.now c.held_members-members.result.now c.args.i c.in_ok-set.set.now s set c.held_members-members.ensures holds,
     ))
-    (λ m vs w h k. subst (λ o. IfSome o (λ (s : Summary). IsGathered m s (vs ++ w ∷ []))) c.in_ok-all.ensures.ok_part (c.gathered_with.ensures m vs w h k))
+    (λ m vs w h k. c.in_ok-all.ensures m vs w h k)
 
 pub counted_in-returns-then-members-eq0-clause-holds : goal.counted_in-returns-then-members-eq0-clause-holds
 counted_in-returns-then-members-eq0-clause-holds t c = λ m base env p s there meets holds.
@@ -430,8 +420,8 @@ joined_over-loop-i-preserved t c =
     let u = c.args.self.now in
     let f = connected_all c.args.op in (
       c.in_ok-found.ensures.looked,
-      known_more (OfLanes u c.args.at.scope.now c.args.cases.paths.now c.args.bodies c.args.sets.now f) c.loop-i.i c.loop-i.all.items c.push.new.self.items
-          c.in_ok-found.found c.loop-i.invariant.1 c.in_ok-push.ensures.items
+      known_more (OfLanes u c.args.at.scope.now c.args.cases.paths.now c.args.bodies c.args.sets.now f) c.loop-i.i c.loop-i.all.items c.add.new.all.items
+          c.in_ok-found.found c.loop-i.invariant.1 c.in_ok-add.ensures
           (lanes_known u c.over-over.result c.args.at c.args.cases c.args.bodies c.args.sets.now f c.loop-i.i c.in_ok-found.found c.over-over.ensures.at
           c.over-over.ensures.cases c.over-over.ensures.bodies c.over-over.ensures.sets c.in_ok-found.ensures.holds),
     )
@@ -447,8 +437,8 @@ counted_over-loop-i-preserved t c =
     let u = c.args.self.now in
     let f = counted c.args.op c.args.number in (
       c.in_ok-found.ensures.looked,
-      known_more (OfLanes u c.args.at.scope.now c.args.cases.paths.now c.args.bodies c.args.sets.now f) c.loop-i.i c.loop-i.all.items c.push.new.self.items
-          c.in_ok-found.found c.loop-i.invariant.1 c.in_ok-push.ensures.items
+      known_more (OfLanes u c.args.at.scope.now c.args.cases.paths.now c.args.bodies c.args.sets.now f) c.loop-i.i c.loop-i.all.items c.add.new.all.items
+          c.in_ok-found.found c.loop-i.invariant.1 c.in_ok-add.ensures
           (lanes_known u c.over-over.result c.args.at c.args.cases c.args.bodies c.args.sets.now f c.loop-i.i c.in_ok-found.found c.over-over.ensures.at
           c.over-over.ensures.cases c.over-over.ensures.bodies c.over-over.ensures.sets c.in_ok-found.ensures.holds),
     )

@@ -74,7 +74,7 @@ abbrev pub decreases-counted_over : goal.decreases-counted_over
 decreases-counted_over l = 10 * l.at.depth + 6
 
 abbrev pub invariant-joined_in-loop-j : goal.invariant-joined_in-loop-j
-invariant-joined_in-loop-j l = JoinedLanes l.self l.over l.op l.i l.j l.all l.looked
+invariant-joined_in-loop-j l = JoinedLanes l.self l.over l.fn.op l.i l.j l.all l.looked
 
 abbrev pub invariant-counted_in-loop-j : goal.invariant-counted_in-loop-j
 invariant-counted_in-loop-j l = GatheredLanes l.self l.over l.i l.j l.all l.looked

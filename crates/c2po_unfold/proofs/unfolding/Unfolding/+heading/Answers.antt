@@ -8,6 +8,7 @@ use Rattle.c2po_unfold.specs.Scopes.{names_of}
 use Rattle.c2po_unfold.proofs.Columns.{column_bound, column_holds}
 use Rattle.c2po_unfold.proofs.Leading.{known_holds, found_holds}
 use Rattle.c2po_unfold.proofs.Members.{found_at, resolved_at}
+use Rattle.c2po_unfold.proofs.Pathwise.{field_same, whole_meets}
 use Rattle.c2po_unfold.proofs.Parts.{picked_open, picked_past, other_picked}
 use Rattle.c2po_unfold.proofs.Rows.{resolved_of-Build, resolved_of-Group, are_resolved-Build, are_resolved-Group}
 use Rattle.c2po_unfold.proofs.unfolding.Unfolding.+heading.Goals as goal
@@ -71,3 +72,13 @@ head-returns-in-Some-clause-head t c = λ m base env h.
     let bound = column_bound m c.args.self.now base c.args.scope.now env c.args.e.now _ _ c.in-Column.name c.in-Column.rows h c.in-Column.is in
     column_holds m c.args.self.now base c.args.scope.now env c.args.e.now _ _ c.in-Column.name c.in-Column.rows c.as_slice.result.now
     c.in-Some.found h c.in-Column.is c.as_slice.ensures.value (c.in-Some.ensures m c.args.self.now base env h.fits bound)
+
+pub head-returns-in-Some-written_part-clause-head : goal.head-returns-in-Some-written_part-clause-head
+head-returns-in-Some-written_part-clause-head t c = λ m base env h.
+    let e = c.args.e.now in
+    let d = c.deref-in-Part.result.now in
+    let whole = whole_meets m c.args.self.now base c.args.scope.now env e _ d _ c.in-Part.field c.in-Part.hint h c.in-Part.is c.deref-in-Part.ensures in
+    let part = c.in-Some-written_part.ensures m base env whole.0 whole.1 in
+    subst (λ w. IfOk c.head-in-Some-written_part.result (λ h. HeadsIn m c.args.self.now base h w))
+    (part.2 ∙ field_same env e _ d _ c.in-Part.field c.in-Part.hint c.in-Part.is c.deref-in-Part.ensures)
+    (c.head-in-Some-written_part.ensures.head m base part.0 part.1)

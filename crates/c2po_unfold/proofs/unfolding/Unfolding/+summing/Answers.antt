@@ -1,4 +1,4 @@
-use Rattle.std.proofs.Common.{◌≡◌, ◌+◌, ◌-◌, ◌<◌, true, false, Some, [], IfOk, IfErr, IfSome, map, refl, sym, subst, ap, ◌∙◌, take, length, get_or, slice_get, sum_by, arith}
+use Rattle.std.proofs.Common.{◌≡◌, ◌+◌, ◌-◌, ◌<◌, true, false, Some, None, [], IfOk, IfErr, IfSome, map, refl, sym, subst, ap, ◌∙◌, take, length, get_or, slice_get, sum_by, arith}
 use Rattle.std.proofs.lemmas.List.{take_all, length-map}
 use Rattle.std.proofs.lemmas.Result.{err_from_is_err_and}
 use Rattle.std.proofs.lemmas.Option.{same_Some}
@@ -251,28 +251,17 @@ counted_bodies-returns-in_err-gates-clause-heavy t c = λ m base env h.
     (λ e. omega (arith, c.in_err-gates.ensures.heavy, c.in_ok-all.ensures.weight m base env h, beside, counted_weight c.args.op c.args.number bodies some))
 
 -- a body with its variable bound
-pub own_body-returns-in_err-summary-clause-heavy : goal.own_body-returns-in_err-summary-clause-heavy
-own_body-returns-in_err-summary-clause-heavy t c = λ m base env s v h heads at.
-    let p = err_from_is_err_and c.from_residual-in_err-summary.result c.from_residual-in_err-summary.ensures.1 in
-    let fits = c.bound.ensures.fits (only m) c.args.self.now base env v h.fits (c.in_ok-head.ensures.head (only m) base s v heads at) in
-    let inside = meets_within (only m) c.args.self.now base c.args.at.scope.now c.bound.result env c.args.bodies v c.bound.ensures.names fits h.resolved in
-    rw (p.1, p.2) (λ e. c.in_err-summary.ensures.heavy m base (bind c.args.bodies.name.now v env) inside e)
-
-pub own_body-returns-clause-holds : goal.own_body-returns-clause-holds
-own_body-returns-clause-holds t c = λ m base env s v h heads at.
-    let fits = c.bound.ensures.fits (only m) c.args.self.now base env v h.fits (c.in_ok-head.ensures.head (only m) base s v heads at) in
-    c.in_ok-summary.ensures.holds m base (bind c.args.bodies.name.now v env)
+pub own_body-returns-clause-heavy : goal.own_body-returns-clause-heavy
+own_body-returns-clause-heavy t c = λ m base env v h heads.
+    let fits = c.bound.ensures.fits (only m) c.args.self.now base env v h.fits heads in
+    c.summary.ensures.heavy m base (bind c.args.bodies.name.now v env)
     (meets_within (only m) c.args.self.now base c.args.at.scope.now c.bound.result env c.args.bodies v c.bound.ensures.names fits h.resolved)
 
-pub own_body-returns-clause-known : goal.own_body-returns-clause-known
-own_body-returns-clause-known t c = record {
-  holds = λ m base env s v some h held.
-      let same = c.held_in.ensures s some in
-      let fits = c.bound.ensures.fits (only m) c.args.self.now base env v h.fits (subst (λ head. Heads m c.args.self.now base head v) (sym same) held) in
-      c.in_ok-summary.ensures.holds m base (bind c.args.bodies.name.now v env)
-      (meets_within (only m) c.args.self.now base c.args.at.scope.now c.bound.result env c.args.bodies v c.bound.ensures.names fits h.resolved);
-  covers = λ m base env s v some. cc;
-}
+pub own_body-returns-clause-holds : goal.own_body-returns-clause-holds
+own_body-returns-clause-holds t c = λ m base env v h heads.
+    let fits = c.bound.ensures.fits (only m) c.args.self.now base env v h.fits heads in
+    c.summary.ensures.holds m base (bind c.args.bodies.name.now v env)
+    (meets_within (only m) c.args.self.now base c.args.at.scope.now c.bound.result env c.args.bodies v c.bound.ensures.names fits h.resolved)
 
 -- a body with its variable covered
 pub covered_body-returns-in_err-summary-clause-heavy : goal.covered_body-returns-in_err-summary-clause-heavy
@@ -370,10 +359,15 @@ body-returns-in-Some-clause-holds t c = λ m base env s v h heads at.
     ahead_known m c.args.self.now base c.args.at.scope.now env c.args.bodies c.args.set.now c.args.known.now.ahead s v c.args.i c.in-Some.summary
     c.requires.ahead c.in-Some.ensures h heads at
 
-pub next_body-returns-then-is_known-clause-holds : goal.next_body-returns-then-is_known-clause-holds
-next_body-returns-then-is_known-clause-holds t c = λ m base env s v h heads at.
+pub like_others-returns-then-is_known-clause-holds : goal.like_others-returns-then-is_known-clause-holds
+like_others-returns-then-is_known-clause-holds t c = λ m base env s v h heads at own.
     subst (λ k. IsSummary m k (resolved_body c.args.bodies env v)) (sym c.summary-summary.ensures)
-    (c.is_known.ensures m c.args.at.scope.now c.args.bodies base env v c.if-is_known.true c.requires.last h (c.in_ok-head.ensures.head (only m) base s v heads at))
+    (c.is_known.ensures m c.args.at.scope.now c.args.bodies base env v c.if-is_known.true c.requires.last h own)
+
+pub like_others-returns-in-Some-clause-holds : goal.like_others-returns-in-Some-clause-holds
+like_others-returns-in-Some-clause-holds t c = λ m base env s v h heads at own.
+    subst (λ o. IfSome o (λ (k : Summary). IsSummary m k (resolved_body c.args.bodies env v))) c.in-Some.is
+    (c.in_ok-summary.ensures.holds m base env s v h heads at own)
 
 pub next_body-returns-in-Some-clause-holds : goal.next_body-returns-in-Some-clause-holds
 next_body-returns-in-Some-clause-holds t c = λ m base env s v h heads at.
@@ -382,8 +376,37 @@ next_body-returns-in-Some-clause-holds t c = λ m base env s v h heads at.
 
 pub next_body-returns-clause-holds : goal.next_body-returns-clause-holds
 next_body-returns-clause-holds t c = λ m base env s v h heads at.
-    subst (λ k. IsSummary m k (resolved_body c.args.bodies env v)) (sym c.summary-summary-2.ensures)
-    (c.in_ok-last.ensures.holds m base env s v h heads at)
+    subst (λ k. IsSummary m k (resolved_body c.args.bodies env v)) (sym (c.summary-summary.ensures ∙ c.of-last.ensures.summary))
+    (c.in_ok-own.ensures.holds m base env v h (c.in_ok-head.ensures.head (only m) base s v heads at))
+
+pub next_body-returns-clause-known : goal.next_body-returns-clause-known
+next_body-returns-clause-known t c = record {
+  last = record {
+    holds = λ m base env s v some h held.
+        let same = c.of-last.ensures.member s some in
+        subst (λ k. IsSummary m k (resolved_body c.args.bodies env v)) (sym c.of-last.ensures.summary)
+        (c.in_ok-own.ensures.holds m base env v h (subst (λ head. Heads m c.args.self.now base head v) (sym same) held));
+    covers = λ m base env s v some.
+        let no : None ≡ Some s = sym c.of-last.ensures.cover ∙ some in
+        absurd (cc);
+  };
+  ahead = c.in_ok-summary.ensures.known.ahead;
+  kinds = c.in_ok-summary.ensures.known.kinds;
+}
+
+pub next_body-returns-in_err-own-clause-heavy : goal.next_body-returns-in_err-own-clause-heavy
+next_body-returns-in_err-own-clause-heavy t c = λ m base env s v h heads at.
+    let p = err_from_is_err_and c.from_residual-in_err-own.result c.from_residual-in_err-own.ensures.1 in
+    rw (p.1, p.2) (λ e. c.in_err-own.ensures.heavy m base env v h (c.in_ok-head.ensures.head (only m) base s v heads at) e)
+
+-- a body for a member that is written out
+pub next_body-returns-then-is_written-clause-holds : goal.next_body-returns-then-is_written-clause-holds
+next_body-returns-then-is_written-clause-holds t c = λ m base env s v h heads at.
+    c.own_body.ensures.holds m base env v h (c.in_ok-head.ensures.head (only m) base s v heads at)
+
+pub next_body-returns-then-is_written-clause-heavy : goal.next_body-returns-then-is_written-clause-heavy
+next_body-returns-then-is_written-clause-heavy t c = λ m base env s v h heads at.
+    c.own_body.ensures.heavy m base env v h (c.in_ok-head.ensures.head (only m) base s v heads at)
 
 -- bodies that are checked together
 pub shared_body-returns-in-Some-clause-holds : goal.shared_body-returns-in-Some-clause-holds
@@ -431,11 +454,6 @@ pub kind_body-returns-clause-known : goal.kind_body-returns-clause-known
 kind_body-returns-clause-known t c =
     one_more_kind c.args.self.now c.args.at.scope.now c.args.bodies c.args.kinds.now.items c.push.new.self.items c.in_ok-fact.fact
     c.requires c.in_ok-fact.ensures.known c.in_ok-push.ensures.items
-
-pub next_body-returns-in-Some-2-clause-holds : goal.next_body-returns-in-Some-2-clause-holds
-next_body-returns-in-Some-2-clause-holds t c = λ m base env s v h heads at.
-    subst (λ o. IfSome o (λ (k : Summary). IsSummary m k (resolved_body c.args.bodies env v))) c.in-Some-2.is
-    (c.in_ok-summary-2.ensures.holds m base env s v h heads at (c.in_ok-head.ensures.head (only m) base s v heads at))
 
 -- bodies by those that are like them
 pub like_body-returns-in-Nested-clause-holds : goal.like_body-returns-in-Nested-clause-holds

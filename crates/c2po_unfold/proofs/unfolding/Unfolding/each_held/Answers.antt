@@ -9,7 +9,7 @@ loop-stored-preserved c =
     let u = c.args.self.now in
     let ss = c.args.values.now in
     let i = c.loop-stored.stored-index in
-    known_more (OfEach u ss) i c.loop-stored.all.items c.push.new.self.items c.held.result c.loop-stored.invariant c.in_ok-push.ensures.items
+    known_more (OfEach u ss) i c.loop-stored.all.items c.add.new.all.items c.held.result c.loop-stored.invariant c.in_ok-add.ensures
     (λ m v h. c.held.ensures.holds m v (for_here u ss i _ v h (slice_get-get_or ss i _ c.loop-stored-test.true)))
 
 pub returns : goal.returns

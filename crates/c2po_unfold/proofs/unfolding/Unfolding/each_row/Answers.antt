@@ -9,8 +9,8 @@ loop-path-preserved c =
     let u = c.args.self.now in
     let paths = c.args.cases.paths.now in
     let i = c.loop-path.path-index in
-    known_more (OfFound u c.args.choice c.args.rows.now paths) i c.loop-path.all.items c.push.new.self.items c.held.result c.loop-path.invariant
-    c.in_ok-push.ensures.items
+    known_more (OfFound u c.args.choice c.args.rows.now paths) i c.loop-path.all.items c.add.new.all.items c.held.result c.loop-path.invariant
+    c.in_ok-add.ensures
     (λ m v h.
     let varied = path_here u c.args.choice paths m i _ h.0 h.1 (slice_get-get_or paths i _ c.loop-path-test.true) in
     c.held.ensures.holds m v (found_known u c.found.result c.in_ok-found.found v (c.found.ensures m u h.0 v varied h.2) c.in_ok-found.ensures.ok_part))

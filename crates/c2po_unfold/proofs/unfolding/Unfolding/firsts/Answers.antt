@@ -15,7 +15,7 @@ loop-set-preserved c =
     let i = c.loop-set.set-index in
     let ms = c.held_members.result.now in
     let own = c.in-Some.stored.now in
-    known_more (OfFirstMember u ss) i c.loop-set.all.items c.push.new.self.items _ c.loop-set.invariant c.in_ok-push.ensures.items
+    known_more (OfFirstMember u ss) i c.loop-set.all.items c.add.new.all.items _ c.loop-set.invariant c.in_ok-add.ensures
     (λ m v h.
     let set = for_here u ss i _ h.0 h.1 (slice_get-get_or ss i _ c.loop-set-test.true) in
     let at = found_at _ _ _ _ refl c.in-Some.ensures.lookup.3.0 c.in-Some.ensures.lookup.1 in

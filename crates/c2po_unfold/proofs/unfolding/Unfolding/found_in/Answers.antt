@@ -9,11 +9,11 @@ loop-path-preserved c =
     let u = c.args.self.now in
     let paths = c.args.cases.paths.now in
     let i = c.loop-path.path-index in
-    known_more {Is = HoldsIn u} (OfFound u c.args.choice c.args.rows.now paths) i c.loop-path.all.items c.push.new.self.items c.in_ok-ok_or.field-0 c.loop-path.invariant
-    c.in_ok-push.ensures.items
+    known_more {Is = HoldsIn u} (OfFound u c.args.choice c.args.rows.now paths) i c.loop-path.all.items c.add.new.all.items c.in_ok-found.found.now c.loop-path.invariant
+    c.in_ok-add.ensures
     (λ m v h.
     let varied = path_here u c.args.choice paths m i _ h.0 h.1 (slice_get-get_or paths i _ c.loop-path-test.true) in
-    found_known u c.found.result c.in_ok-ok_or.field-0 v (c.found.ensures m u h.0 v varied h.2) c.in_ok-ok_or.ensures.ok_part)
+    found_known u c.found.result c.in_ok-found.found v (c.found.ensures m u h.0 v varied h.2) c.in_ok-found.ensures.ok_part)
 
 pub returns : goal.returns
 returns c = λ m i p w v at h lead. c.loop-path.invariant.known m i v (omega (arith, c.loop-path-test.false, slice_get_within c.args.cases.paths.now i p at)) (w, (p, at, h), lead)

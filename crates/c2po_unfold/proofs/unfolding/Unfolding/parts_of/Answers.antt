@@ -13,8 +13,8 @@ loop-whole-preserved c =
     let u = c.args.self.now in
     let ss = c.args.wholes.now in
     let i = c.loop-whole.whole-index in
-    known_more {Is = HoldsIn u} (OfPart u c.args.scope.now ss c.args.field.now c.args.hint.now) i c.loop-whole.all.items c.push.new.self.items c.held_part.result
-    c.loop-whole.invariant c.in_ok-push.ensures.items
+    known_more {Is = HoldsIn u} (OfPart u c.args.scope.now ss c.args.field.now c.args.hint.now) i c.loop-whole.all.items c.add.new.all.items c.held_part.result
+    c.loop-whole.invariant c.in_ok-add.ensures
     (λ m v h. subst (Holds u c.held_part.result) (sym h.is)
     (c.held_part.ensures h.case h.base h.env h.whole h.fits h.place (for_here u ss i _ h.whole h.holds (slice_get-get_or ss i _ c.loop-whole-test.true))))
 

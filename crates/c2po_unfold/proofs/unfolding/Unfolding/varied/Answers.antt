@@ -12,7 +12,7 @@ loop-i-preserved c =
     let own = c.in_ok-stored.stored.now in
     let at : slice_get c.args.members.now (i / n) ≡ Some own = subst (λ k. slice_get c.args.members.now k ≡ Some own) c.round-j.ensures
     (lent_at c.args.members.now c.round-j.result c.get.result c.in_ok-stored.stored c.get.ensures.lookup c.in_ok-stored.ensures.ok_part) in
-    known_more (OfRound u c.args.members.now n) i c.loop-i.varied.items c.push.new.self.items _ c.loop-i.invariant c.in_ok-push.ensures.items
+    known_more (OfRound u c.args.members.now n) i c.loop-i.varied.items c.add.new.all.items _ c.loop-i.invariant c.in_ok-add.ensures
     (λ m v h.
     let same = same_Some own h.0 (sym at ∙ h.1) in
     let holds = subst (λ s. Holds u s v) (sym same) h.2 in
