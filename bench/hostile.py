@@ -9,7 +9,7 @@
 
 Texts are compiled as they are, with --table, with --simplify, with a header, and run by r2u2 --source over an empty trace,
 so up to the first row. Programs are run by r2u2 and written again by c2po --upgrade and, where the text of one fits, --show. A line has the seconds of
-user time, the peak of memory and the code of a run. A run is past the bounds above 5 seconds, above 512 MB, of a program
+user time, the peak of memory and the code of a run. A run is past the bounds above 5 seconds, above 256 MB, of a program
 768 MB, where it needs more than 2 MiB of stack, and where it doesn't end within the limit (--seconds, of the processor's
 time). One that is refused at once shows nothing, and isn't counted.
 
@@ -28,7 +28,7 @@ import hostile_programs
 import hostile_texts
 from measure import measured
 
-MOST_SECONDS, MOST_FOR_TEXTS, MOST_FOR_PROGRAMS = 5, 512, 768
+MOST_SECONDS, MOST_FOR_TEXTS, MOST_FOR_PROGRAMS = 5, 256, 768
 STACK = 2048
 # Beyond this a run is stopped, so that the machine stays usable; it is above both bounds.
 ROOM = 8 << 30

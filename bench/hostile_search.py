@@ -8,11 +8,13 @@
 A text has definitions over sets of members, which are numbers, signals or values of structs. Each is a quantifier over a set,
 or over each set of a set of sets, with others within it, and then with quantifiers over one member each, over a body that
 compares numbers, divides by them, picks fields, adds and denies. It can be within quantifiers over structs whose fields are
-sets of numbers, some small and some large, and over such fields. It weighs less than 65,536, and no divisor is 0, so that the
-text is legal. Some are outputs, as many as the limit of their weights lets be. The search begins with shapes at random,
-changes one number of a shape at a time, with fewer members where the text would weigh too much, and goes on with what takes
-more. Each text that takes more than all before is printed: its seconds of user time, the peak of memory in MB, the code of the
-run, and its shape. A run ends after --seconds of user time. Code 8 is out of memory.
+sets of numbers, some small and some large, and over such fields. All of these can be within quantifiers over sets that the
+definition writes out: sets of structs with a number, which may be that of the variable before, or sets of sets of one number,
+which may be that of the outermost variable, and which a further quantifier goes over. It weighs at most 65,536, and no divisor
+is 0, so that the text is legal. Some are outputs, as many as the limit of their weights lets be. The search begins with the
+heaviest of some shapes at random, changes one number of a shape at a time, with fewer members where the text would weigh too
+much, and goes on with what takes more. Each text that takes more than all before is printed: its seconds of user time, the peak
+of memory in MB, the code of the run, and its shape. A run ends after --seconds of user time. Code 8 is out of memory.
 
 The status is 0, and 1 where a run ended otherwise than with code 0: each text is legal.
 """
@@ -35,8 +37,14 @@ COUNTING = ('foratmost', 'foratleast', 'forexactly')
 # What bodies do with the variables that are numbers: compare them, or divide by each, by a sum or by a difference. Of sums and
 # differences none is 0, but the range of all of them has it.
 AS_THEY_ARE, BY_EACH, BY_SUM, BY_DIFFERENCE = range(4)
-# The one member of a set that is quantified over: the variable before, the value of a struct that holds it, or a stored value.
-OF_VARIABLE, OF_STRUCT, OF_STORED = range(3)
+# The one member of a set that is quantified over: the variable before, the value of a struct that holds it, a stored value, or
+# the outermost variable.
+OF_VARIABLE, OF_STRUCT, OF_STORED, OF_OUTERMOST = range(4)
+# The members of a set that is written out: structs with a number, the same where the first one has that of the variable before,
+# sets of one number, or sets of that of the outermost variable.
+CLOSED, OPEN, OF_SETS, OF_ONE = range(4)
+# What is before each second member that is a signal.
+MIXED = ('', '!', 'F[0,1] ')
 
 
 @dataclasses.dataclass(frozen=True)
@@ -44,6 +52,7 @@ class Shape:
     """The numbers that make up a text."""
     members: int = 40       # of each set that is quantified over
     distinct: int = 1       # how many of them differ from one another
+    mixed: int = 0          # each second one, where they are signals: as it is, denied, within a temporal operator
     sets: int = 1           # sets of the same members, each begun at another one
     nesting: int = 2        # quantifiers within one another
     numeric: int = 0        # the outermost ones of these go over numbers
@@ -53,10 +62,10 @@ class Shape:
     grouped: int = 0        # the outermost ones go over each set of a set of sets
     groups: int = 2         # sets in each of these
     singles: int = 0        # quantifiers over one member each, within all others
-    single_kind: int = 0    # that member: the variable before, a struct with it, a stored value
+    single_kind: int = 0    # that member: the variable before, a struct with it, a stored value, the outermost variable
     single_counted: int = 0 # the innermost ones of these count
     single_least: int = 0   # at least so many
-    ragged: int = 0         # quantifiers over structs whose fields are sets of numbers, outside all others
+    ragged: int = 0         # quantifiers over structs whose fields are sets of numbers, outside those over members
     structs: int = 4        # in the set of these
     set_fields: int = 2     # of each
     small: int = 1          # members of such a field
@@ -65,6 +74,9 @@ class Shape:
     set_levels: int = 1     # quantifiers over such fields, those of one variable and of another in turn
     set_counted: int = 0    # the innermost one of these counts
     late: int = 0           # they are within all others but those over one member each, else outside them
+    written: int = 0        # quantifiers over sets of numbers that are written out, outside all others
+    written_kind: int = 0   # their members: structs, one of them of the variable before, sets, all of them of the outermost one
+    written_members: int = 2 # how many of these each set has
     division: int = 0       # what bodies do with numbers: compare them, divide by each, by a sum, by a difference
     fields: int = 2         # of each struct
     depth: int = 1          # structs within one another, which the body picks through
@@ -76,15 +88,16 @@ class Shape:
     outputs: int = 0        # outputs, each of a definition
 
 
-LEAST = {'members': 1, 'distinct': 1, 'sets': 1, 'nesting': 1, 'numeric': 0, 'counted': 0, 'counting': 0, 'threshold': 0,
-         'grouped': 0, 'groups': 1, 'singles': 0, 'single_kind': 0, 'single_counted': 0, 'single_least': 0, 'ragged': 0,
-         'structs': 1, 'set_fields': 1, 'small': 1, 'large': 1, 'every': 1, 'set_levels': 1, 'set_counted': 0, 'late': 0,
-         'division': 0, 'fields': 1, 'depth': 0, 'uses': 1, 'sums': 0, 'denials': 0, 'labels': 1, 'linked': 0, 'outputs': 0}
-MOST = {'members': 400, 'distinct': 400, 'sets': 100, 'nesting': 40, 'numeric': 40, 'counted': 40, 'counting': 2, 'threshold': 200,
-        'grouped': 40, 'groups': 40, 'singles': 80, 'single_kind': 2, 'single_counted': 80, 'single_least': 2, 'ragged': 3,
-        'structs': 256, 'set_fields': 64, 'small': 12, 'large': 64, 'every': 300, 'set_levels': 60, 'set_counted': 1, 'late': 1,
-        'division': 3, 'fields': 100, 'depth': 400, 'uses': 40, 'sums': 60, 'denials': 60, 'labels': 60, 'linked': 50,
-        'outputs': 60_000}
+LEAST = {'members': 1, 'distinct': 1, 'mixed': 0, 'sets': 1, 'nesting': 1, 'numeric': 0, 'counted': 0, 'counting': 0,
+         'threshold': 0, 'grouped': 0, 'groups': 1, 'singles': 0, 'single_kind': 0, 'single_counted': 0, 'single_least': 0,
+         'ragged': 0, 'structs': 1, 'set_fields': 1, 'small': 1, 'large': 1, 'every': 1, 'set_levels': 1, 'set_counted': 0,
+         'late': 0, 'written': 0, 'written_kind': 0, 'written_members': 1, 'division': 0, 'fields': 1, 'depth': 0, 'uses': 1,
+         'sums': 0, 'denials': 0, 'labels': 1, 'linked': 0, 'outputs': 0}
+MOST = {'members': 400, 'distinct': 400, 'mixed': 2, 'sets': 100, 'nesting': 40, 'numeric': 40, 'counted': 40, 'counting': 2,
+        'threshold': 200, 'grouped': 40, 'groups': 40, 'singles': 80, 'single_kind': 3, 'single_counted': 80, 'single_least': 2,
+        'ragged': 3, 'structs': 256, 'set_fields': 64, 'small': 12, 'large': 64, 'every': 300, 'set_levels': 60,
+        'set_counted': 1, 'late': 1, 'written': 16, 'written_kind': 3, 'written_members': 4, 'division': 3, 'fields': 100,
+        'depth': 400, 'uses': 40, 'sums': 60, 'denials': 60, 'labels': 60, 'linked': 50, 'outputs': 60_000}
 
 
 def numbered_levels(shape):
@@ -99,7 +112,7 @@ def set_levels(shape):
 
 def count_of_numbers(shape):
     """How many variables are numbers."""
-    return numbered_levels(shape) + set_levels(shape)
+    return shape.written + numbered_levels(shape) + set_levels(shape)
 
 
 def compares(shape):
@@ -182,14 +195,31 @@ def within_levels(shape, inner, copies):
     return inner
 
 
-def weight(shape):
-    """The weight of a definition."""
-    inner = body_weight(shape)
+def mixed_uses(shape):
+    """How often the body uses a variable that weighs one more where it is a second member."""
+    stored = shape.singles and shape.single_kind == OF_STORED
+    return uses(shape) if shape.mixed and not shape.depth and not stored else 0
+
+
+def weight_over(shape, inner):
+    """The weight of a definition whose bodies weigh this much."""
     for _ in range(min(shape.single_counted, shape.singles)):
         inner = counted_weight(1, shape.single_least, inner)
     if shape.ragged and shape.late:
-        return within_levels(shape, within_fields(shape, inner + 1), shape.structs ** shape.ragged) + 1
-    return within_fields(shape, within_levels(shape, inner + 1, 1)) + 1
+        inner = within_levels(shape, within_fields(shape, inner + 1), shape.structs ** shape.ragged)
+    else:
+        inner = within_fields(shape, within_levels(shape, inner + 1, 1))
+    return inner * shape.written_members ** shape.written - 1
+
+
+def weight(shape):
+    """The weight of a definition."""
+    inner = body_weight(shape)
+    whole = weight_over(shape, inner)
+    if not mixed_uses(shape) or whole > MOST_WEIGHT:
+        return whole
+    bodies = whole - weight_over(shape, inner - 1)
+    return whole + bodies // shape.members * (shape.members // 2) * mixed_uses(shape)
 
 
 def is_counted(shape, level):
@@ -199,8 +229,10 @@ def is_counted(shape, level):
 def tokens(shape):
     """About how many tokens a definition has, and not fewer."""
     levels = shape.nesting + min(shape.grouped, shape.nesting) + shape.ragged + set_levels(shape)
-    divided = 4 * count_of_numbers(shape) + 10 if shape.division else 0
-    return 12 * levels + 18 * shape.singles + divided + uses(shape) * (2 * shape.depth + 4) + 2 * shape.sums + shape.denials + 20
+    written = (5 * shape.written_members + 16) * shape.written
+    divided = 6 * count_of_numbers(shape) + 10 if shape.division else 0
+    body = divided + uses(shape) * (2 * shape.depth + 4) + 2 * shape.sums + shape.denials + 20
+    return 12 * levels + 18 * shape.singles + written + body
 
 
 def struct_tokens(shape):
@@ -212,6 +244,8 @@ def struct_tokens(shape):
 def sets_weight(shape):
     """The weight of the greatest set: of members, or of sets of them."""
     plain = shape.members * (shape.depth * shape.fields + 1) + 1
+    if shape.mixed and not shape.depth:
+        plain += shape.members // 2
     return shape.groups * plain + 1 if shape.grouped else plain
 
 
@@ -222,8 +256,13 @@ def structs_weight(shape):
     return 1 + shape.structs + fields + large * shape.large + (fields - large) * shape.small
 
 
+def outputs_weight(shape):
+    """What all outputs weigh, of which the last one is a signal."""
+    return weight(shape) * shape.outputs + 1
+
+
 def is_legal(shape):
-    light = max(sets_weight(shape), structs_weight(shape), weight(shape) * max(shape.outputs, 1)) <= MOST_WEIGHT
+    light = max(sets_weight(shape), structs_weight(shape), weight(shape), outputs_weight(shape)) <= MOST_WEIGHT
     short = max(tokens(shape), struct_tokens(shape)) <= MOST_TOKENS
     return light and short and max(shape.members, shape.distinct) <= MOST_TOKENS // 2 - 5
 
@@ -238,11 +277,11 @@ def never(shape, count):
     return 3 * ((count * (shape.distinct - 1) + 1) // 2) + count - 1
 
 
-def sets_of(shape, letter, values):
-    """The sets of the members, each begun at another one, a set of these, and a set of one member."""
+def sets_of(shape, letter, values, others):
+    """Sets whose members are values and others in turn, each begun at another one, a set of these, and a set of one member."""
     pieces = []
     for place in range(shape.sets):
-        members = [values[(place + k) % len(values)] for k in range(shape.members)]
+        members = [(values, others)[k % 2][(place + k) % len(values)] for k in range(shape.members)]
         pieces.append('DEFINE %s%d := {%s};\n' % (letter, place, ', '.join(members)))
     if shape.grouped:
         members = ['%s%d' % (letter, k % shape.sets) for k in range(shape.groups)]
@@ -281,13 +320,21 @@ def ragged_structs(shape):
 def head(shape):
     """Signals, structs, and the sets of what is quantified over."""
     pieces = ['INPUT p: bool; x: int;\nSTRUCT t: { a: bool; b: bool; c: bool; };\n']
+    values = ['e%d' % k for k in range(shape.distinct)]
+    others = values
     if shape.depth:
         pieces.append(structs(shape))
     else:
-        pieces += ['INPUT e%d: bool;\n' % k for k in range(shape.distinct)]
-    pieces.append(sets_of(shape, 's', ['e%d' % k for k in range(shape.distinct)]))
+        pieces += ['INPUT %s: bool;\n' % value for value in values]
+        if shape.mixed:
+            pieces += ['DEFINE o%s := %s%s;\n' % (value, MIXED[shape.mixed], value) for value in values]
+            others = ['o%s' % value for value in values]
+    pieces.append(sets_of(shape, 's', values, others))
     if numbered_levels(shape):
-        pieces.append(sets_of(shape, 'n', [str(numeral(k)) for k in range(shape.distinct)]))
+        numerals = [str(numeral(k)) for k in range(shape.distinct)]
+        pieces.append(sets_of(shape, 'n', numerals, numerals))
+    if shape.written:
+        pieces.append('STRUCT cell: { a: int; };\n')
     if shape.ragged:
         pieces.append(ragged_structs(shape))
     pieces.append('STRUCT box: { a: %s; };\n' % kind_of_last(shape))
@@ -313,7 +360,7 @@ def variable(shape, level):
 
 def last(shape):
     """What the innermost variable stands for: a member, as it is or through quantifiers over one member each."""
-    if not shape.singles:
+    if not shape.singles or shape.single_kind == OF_OUTERMOST:
         return variable(shape, shape.nesting - 1)
     return single_variable(shape, shape.singles - 1) + '.a' * (shape.single_kind == OF_STRUCT)
 
@@ -328,14 +375,30 @@ def set_variable(shape, level):
     return 'f' + ('v%d' % level).ljust(shape.labels, 'f')
 
 
+def written_variable(shape, level):
+    """The variable of a quantifier over a set that is written out, or over the one number of a set in such a set."""
+    return 'c' + ('v%d' % level).ljust(shape.labels, 'c')
+
+
+def of_sets(shape):
+    """Whether sets that are written out are sets of sets."""
+    return shape.written_kind in (OF_SETS, OF_ONE)
+
+
+def written_number(shape, level):
+    """The number that such a variable is, or has."""
+    return written_variable(shape, level) + '.a' * (not of_sets(shape))
+
+
 def numbers(shape):
-    """The variables that are numbers, the outermost first."""
+    """The numbers that variables are, or have, the outermost first."""
     levels = numbered_levels(shape)
     names = [variable(shape, level) for level in range(levels)]
     if levels == shape.nesting:
         names[-1] = last(shape)
     within = [set_variable(shape, level) for level in range(set_levels(shape))]
-    return names + within if shape.late else within + names
+    written = [written_number(shape, level) for level in range(shape.written)]
+    return written + (names + within if shape.late else within + names)
 
 
 def compared(shape):
@@ -375,6 +438,8 @@ def singled(shape, text):
             members = '{box(%s%s)}' % (before, '.a' if level else '')
         elif shape.single_kind == OF_VARIABLE:
             members = '{%s}' % before
+        elif shape.single_kind == OF_OUTERMOST:
+            members = '{%s}' % (written_variable(shape, 0) if shape.written else variable(shape, 0))
         else:
             members = 'one_' + letter_of(shape, shape.nesting - 1)
         own = single_variable(shape, level)
@@ -416,6 +481,27 @@ def over_members(shape, number, text):
     return text
 
 
+def written_members(shape, level):
+    """The members of a set that is written out."""
+    values = [str(numeral((level + k) % shape.distinct)) for k in range(shape.written_members)]
+    if shape.written_kind == OPEN and level:
+        values[0] = written_number(shape, level - 1)
+    if shape.written_kind == OF_ONE and level:
+        values = [written_number(shape, 0)] * shape.written_members
+    return ', '.join(('{%s}' if of_sets(shape) else 'cell(%s)') % value for value in values)
+
+
+def over_written(shape, text):
+    """A body within quantifiers over sets that are written out."""
+    for level in reversed(range(shape.written)):
+        own = written_variable(shape, level)
+        if of_sets(shape):
+            text = 'foreach(%s: h%s)(%s)' % (own, own, text)
+            own = 'h' + own
+        text = 'foreach(%s: {%s})(%s)' % (own, written_members(shape, level), text)
+    return text
+
+
 def name_of(shape, number):
     return ('d%d' % number).ljust(shape.labels, '_')
 
@@ -428,6 +514,7 @@ def definition(shape, number):
         text = over_fields(shape, over_members(shape, number, text))
     for place in reversed(range(shape.ragged)):
         text = 'foreach(%s: all_r)(%s)' % (struct_variable(shape, place), text)
+    text = over_written(shape, text)
     if shape.linked and number and number % shape.linked == 0:
         text = 't(p, %s, %s).a' % (name_of(shape, number - 1), text)
     return 'DEFINE %s := %s;\n' % (name_of(shape, number), text)
@@ -475,6 +562,11 @@ def at_random(chance):
     return shape
 
 
+def start(chance):
+    """The heaviest of some shapes at random, since time grows with the bodies of a definition."""
+    return max((at_random(chance) for _ in range(8)), key=weight)
+
+
 def taken_by(asked, folder, text):
     path = os.path.join(folder, 'text.c2po')
     with open(path, 'w', encoding='ascii') as file:
@@ -493,10 +585,12 @@ def climb(asked, folder):
     chance, worst, odd = random.Random(asked.seed), -1.0, False
     end = time.monotonic() + 60 * asked.minutes
     while time.monotonic() < end:
-        shape, here, missed = at_random(chance), -1.0, 0
+        shape, kept, here, missed = start(chance), '', -1.0, 0
         while missed < asked.patience and time.monotonic() < end:
             other = changed(shape, chance) if here >= 0 else shape
             text = text_of(other, asked.bytes)
+            if text == kept:
+                continue
             if len(text) > asked.bytes:
                 missed += 1
                 continue
@@ -505,7 +599,7 @@ def climb(asked, folder):
             odd = odd or taken.status != 0
             missed = 0 if score > here else missed + 1
             if score > here:
-                shape, here = other, score
+                shape, kept, here = other, text, score
             if score > worst or taken.status:
                 worst = max(worst, score)
                 print('%7.2f s %7.1f MB code %d  %s' % (taken.user, taken.peak, taken.status, other), flush=True)

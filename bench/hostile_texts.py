@@ -151,15 +151,24 @@ def passed_number(body, levels=60):
     return 'a#:=foreach(v:s)(foreach(w:s)(%s%s%s));\n' % (head, body.replace('w', last), ')' * levels)
 
 
-def sets_of_sets(sizes, count):
-    """Sets of numbers of these sizes, and a set of so many of them, in turn."""
-    sets = ['s%d:={%s};\n' % (k, ', '.join(str(3 * (k + i) + 1) for i in range(size))) for k, size in enumerate(sizes)]
+def numeral(place):
+    return str(3 * place + 1)
+
+
+def formula(place):
+    """A formula that weighs one or two, in turn."""
+    return '!' * (place % 2) + 'p'
+
+
+def sets_of_sets(sizes, count, member=numeral):
+    """Sets of numbers, or of other members, of these sizes, and a set that holds `count` of them, in turn."""
+    sets = ['s%d:={%s};\n' % (k, ', '.join(member(k + i) for i in range(size))) for k, size in enumerate(sizes)]
     return ''.join(sets) + 'z:={%s};\n' % ', '.join('s%d' % (k % len(sizes)) for k in range(count))
 
 
 def number_set(first, size):
     """A set of this many numbers, written out."""
-    return '{%s}' % ','.join(str(3 * (first + k) + 1) for k in range(size))
+    return '{%s}' % ','.join(numeral(first + k) for k in range(size))
 
 
 def structs_of_sets(sizes):
@@ -169,6 +178,12 @@ def structs_of_sets(sizes):
               for k, own in enumerate(sizes)]
     return '%sSTRUCT t: { %s: set<int>; };\nDEFINE\n%sz:={%s};\n' % (
         SIGNALS, fields, ''.join(values), members(len(sizes), 'e#'))
+
+
+def structs_of_formulas(count):
+    """Structs whose one field is a set of one formula or two, and the set of all of them."""
+    values = ['e%d:=t({%s%s});\n' % (k, formula(k), ',p' * (k % 3 == 0)) for k in range(count)]
+    return '%sSTRUCT t: { a: set<bool>; };\nDEFINE\n%ss:={%s};\n' % (SIGNALS, ''.join(values), members(count, 'e#'))
 
 
 def ragged(fields):
@@ -216,6 +231,23 @@ def literal_twos(sets, body):
     names = 'abcdefghijklmno'[:len(sets)]
     head = ''.join('foreach(%s:%s)(' % pair for pair in zip(names, sets))
     return 'a#:=%s%s%s;\n' % (head, body, ')' * len(sets))
+
+
+def open_sets(first, others, names, form):
+    """A definition of quantifiers over sets that are written out, each around one over the one member of a set in such a set.
+
+    The body is of this form, with the outermost and the innermost of these members.
+    """
+    sets = [first] + [others] * (len(names) - 1)
+    head = ''.join('foreach(%s:%s)(foreach(%s:%s)(' % (name, own, name.upper(), name) for name, own in zip(names, sets))
+    return 'B#:=%s%s%s;\n' % (head, form.format(names[0].upper(), names[-1].upper()), '))' * len(names))
+
+
+def passed_literals(sets):
+    """One definition of 15 quantifiers over two structs that are written out, around one over each of these sets."""
+    head = ''.join('foreach(%s:{t(p),t(q)})(' % name for name in 'abcdefghijklmno')
+    head += ''.join('foreach(v%d:%s)(' % pair for pair in enumerate(sets))
+    return '%sSTRUCT t: { a: bool; };\nDEFINE r:={t(p)};\nB:=%sa.a%s;\nFTSPEC p;\n' % (SIGNALS, head, ')' * (15 + len(sets)))
 
 
 def one_field(number):
@@ -338,6 +370,14 @@ TEXTS = [
     filled('counted-sets', 'unused definitions that count over pairs of numbers from a set of sets of one to nine',
            SIGNALS + 'DEFINE\n' + sets_of_sets((1, 9, 2, 8, 3, 7, 4, 6, 5), 16),
            numbered('a#:=foreach(y:z)(foratleast(v:y,1)(foreach(u:z)(foratmost(w:u,2)(v<w))));\n'), 'FTSPEC p;\n'),
+    filled('divided-sets', 'unused definitions over pairs of numbers from a set of sets of one and two, whose bodies divide by both',
+           SIGNALS + 'DEFINE\n' + sets_of_sets((1, 2), 60),
+           numbered('a#:=foreach(y:z)(foreach(v:y)(foreach(u:z)(foreach(w:u)(1/v<1/w))));\n'), 'FTSPEC p;\n'),
+    filled('boolean-sets', 'unused definitions over pairs of formulas from a set of sets of one and two, which weigh one and two',
+           SIGNALS + 'DEFINE\n' + sets_of_sets((1, 2), 79, formula),
+           numbered('a#:=foreach(y:z)(foreach(v:y)(foreach(u:z)(foreach(w:u)(v||w))));\n'), 'FTSPEC p;\n'),
+    filled('boolean-fields', 'the same over fields that are such sets, of pairs of structs', structs_of_formulas(87),
+           numbered('a#:=foreach(v:s)(foreach(w:s)(foreach(a:v.a)(foreach(b:w.a)(a||b))));\n'), 'FTSPEC p;\n'),
     filled('literal-twos', '13 quantifiers over two numbers within one another, around one over two structs that are written out',
            SIGNALS + 'STRUCT t: { a: int; };\nDEFINE s:={1,2};\n',
            numbered(literal_twos(['s'] * 13 + ['{t(1),t(2)}'], 'm<n.a')), 'FTSPEC p;\n'),
@@ -346,6 +386,20 @@ TEXTS = [
     filled('literal-mixed', '14 quantifiers within one another, three of them over two such structs, the others over two numbers',
            SIGNALS + 'STRUCT t: { a: int; };\nDEFINE s:={1,2};\n',
            numbered(literal_twos((['s'] * 4 + ['{t(1),t(2)}']) * 2 + ['s'] * 3 + ['{t(1),t(2)}'], 'a<n.a')), 'FTSPEC p;\n'),
+    filled('open-structs', '14 quantifiers within one another over two structs that are written out, one of which holds the variable '
+           'before',
+           SIGNALS + 'STRUCT t: { a: int; };\nDEFINE\n',
+           numbered(literal_twos(['{t(1),t(2)}'] + ['{t(%s.a),t(2)}' % name for name in 'abcdefghijklm'], 'a.a<n.a')),
+           'FTSPEC p;\n'),
+    # None of these letters names a temporal operator where it is a capital.
+    filled('open-sets', '14 quantifiers over two sets that are written out, each around one over the one number of such a set',
+           SIGNALS + 'DEFINE\n', numbered(open_sets('{{1},{2}}', '{{1},{2}}', 'abcdeijklmntvw', '{0}<{1}')), 'FTSPEC p;\n'),
+    filled('outer-sets', '15 such pairs, where each set but the outermost two holds the outermost formula',
+           SIGNALS + 'DEFINE\n', numbered(open_sets('{{p},{q}}', '{{A},{A}}', 'abcdeijklmntvwy', '{0}')), 'FTSPEC p;\n'),
+    Text('passed-literals', 'one definition of 60 quantifiers over one stored struct, within 15 over two structs that are written '
+         'out', lambda: passed_literals(['r'] * 60)),
+    Text('passed-outer', 'the same over the outermost variable alone in place of the stored struct',
+         lambda: passed_literals(['{a}'] * 60)),
     filled('distinct-fields', 'unused definitions over pairs of 28 and of 256 structs, and over one of their 8 fields, which are '
            'sets of one or two, otherwise in each struct',
            structs_of_sets([[1 + (k >> place & 1) for place in range(8)] for k in range(256)])
