@@ -11,11 +11,12 @@ use Rattle.c2po_unfold.specs.Resolving.{IsResolved, resolved_value}
 use Rattle.c2po_unfold.specs.declared.scope.Head.{Head}
 use Rattle.c2po_unfold.specs.declared.scope.Head.TheVariants as head
 use Rattle.c2po_unfold.specs.declared.scope.Choice.{Choice}
+use Rattle.c2po_unfold.specs.declared.scope.Draw.{Draw}
 use Rattle.c2po_unfold.specs.declared.scope.Member.{Member}
-use Rattle.c2po_unfold.specs.declared.scope.Scope.{Scope, Top, Open', Held', Covered', Varied'}
+use Rattle.c2po_unfold.specs.declared.scope.Scope.{Scope, Top, Open', Held', Covered', Varied', Drawn'}
 use Rattle.c2po_unfold.specs.declared.unfolding.Unfolding.{Unfolding}
 use Rattle.c2po_unfold.specs.Bodies.{MeetsBodyIn}
-use Rattle.c2po_unfold.specs.Cases.{Case, only, chosen, mode_in, IsMember, IsReached, IsVaried}
+use Rattle.c2po_unfold.specs.Cases.{Case, only, chosen, mode_in, IsDrawn, IsMember, IsReached, IsVaried}
 use Rattle.c2po_unfold.specs.Covering.{Mode}
 use Rattle.c2po_unfold.specs.Environment.{Env}
 use Rattle.c2po_unfold.specs.Heads.{HeadsIn}
@@ -27,6 +28,7 @@ use Rattle.c2po_unfold.specs.Values.{Value}
 pub record IsFurther (c d : Case) (u : Unfolding) : Type 0 where
   pub mode : mode_in d ≡ mode_in c
   pub varied : (choice : Choice) (v : Value) → IsVaried c u choice v → IsVaried d u choice v
+  pub drawn : (draw : Draw) (s v : Value) → IsDrawn c draw s v → IsDrawn d draw s v
 
 pub fits_further : (c d : Case) (base : Env) (u : Unfolding) (scope : Scope) (env : Env) → IsFurther c d u → FitsIn c u base scope env → FitsIn d u base scope env
 fits_further c d base u Top env f h = h
@@ -36,6 +38,16 @@ fits_further c d base u (Held' x s i q outer) env f h = (h.0, h.1, h.2, fits_fur
 fits_further c d base u (Covered' x s q outer) env f h =
     (h.0, h.1, subst (λ m. IsOfLeaf m s.now h.0) (sym f.mode) h.2, fits_further c d base u outer h.1 f h.3, h.4)
 fits_further c d base u (Varied' x choice q outer) env f h = (h.0, h.1, f.varied choice h.0 h.2, fits_further c d base u outer h.1 f h.3, h.4)
+fits_further c d base u (Drawn' x e p within draw q outer) env f h = (
+  h.0,
+  h.1,
+  h.2,
+  f.drawn draw (resolved_value e.now h.1) h.0 h.3,
+  fits_further c d base u within h.1 f h.4,
+  h.5,
+  fits_further c d base u outer h.2 f h.6,
+  h.7,
+)
 
 pub heads_further : (c d : Case) (base : Env) (u : Unfolding) (h : Head) (v : Value) → IsFurther c d u → HeadsIn c u base h v → HeadsIn d u base h v
 heads_further c d base u (head.Nothing scope e) v f k = absurd k
@@ -48,13 +60,14 @@ heads_further c d base u (head.Varied choice) v f k = f.varied choice v k
 
 -- where each variable has one value, it has that in any case
 pub only_further : (m : Mode) (path : List ℕ) (u : Unfolding) → IsFurther (only m) (chosen m path) u
-only_further m path u = record { mode = refl; varied = λ choice v h. absurd h }
+only_further m path u = record { mode = refl; varied = λ choice v h. absurd h; drawn = λ draw s v h. absurd h }
 
 -- what a case chooses, it chooses where its path has a number more
 pub reached_further : (m : Mode) (old new : List ℕ) (level number : ℕ) (u : Unfolding) → IsReached old new level number → IsFurther (chosen m old) (chosen m new) u
 reached_further m old new level number u reached = record {
   mode = refl;
   varied = λ choice v h. (h.0, reached.kept choice.level h.0 h.1, h.2);
+  drawn = λ draw s v h. (h.0, reached.kept draw.level h.0 h.1, h.2);
 }
 
 -- so what holds of the variables around a body holds of them there

@@ -10,7 +10,7 @@ use Rattle.c2po_unfold.specs.declared.resolved.Resolved.{Resolved, Row_of-Resolv
 use Rattle.c2po_unfold.specs.declared.resolved.Resolved.{Number, Truth, Known as Known', Found', Variable, Build', Group', Part'}
 use Rattle.c2po_unfold.specs.declared.resolved.Resolved.{Column', Unary', Binary', Joined', Counted'}
 use Rattle.c2po_unfold.specs.declared.resolved.Row.{Row}
-use Rattle.c2po_unfold.specs.declared.scope.Scope.{Scope, Top, Open', Held', Covered', Varied'}
+use Rattle.c2po_unfold.specs.declared.scope.Scope.{Scope, Top, Open', Held', Covered', Varied', Drawn'}
 use Rattle.c2po_unfold.specs.declared.scope.Head.{Head}
 use Rattle.c2po_unfold.specs.declared.scope.Head.TheVariants as head
 use Rattle.c2po_unfold.specs.declared.unfolding.Unfolding.{Unfolding}
@@ -159,6 +159,7 @@ fits_later m base (Held' x s i q outer) old new env g h =
     (h.0, h.1, holds_later h.0 old new s g h.2, fits_later m base outer old new h.1 g h.3, h.4)
 fits_later m base (Covered' x s q outer) old new env g h = (h.0, h.1, h.2, fits_later m base outer old new h.1 g h.3, h.4)
 fits_later m base (Varied' x ms q outer) old new env g h = absurd h.2
+fits_later m base (Drawn' x e p within draw q outer) old new env g h = absurd h.3
 
 -- the names of an expression within variables are resolved later too
 pub meets_later : (m : Mode) (base : Env) (scope : Scope) (old new : Unfolding) (env : Env) (e : Resolved) → IsLater old new →
@@ -204,6 +205,7 @@ fits_covering m base (Held' x s i q outer) u env h = (h.0, h.1, h.2, fits_coveri
 fits_covering m base (Covered' x s q outer) u env h =
     (h.0, h.1, leaf_covered m s.now h.0 h.2, fits_covering m base outer u h.1 h.3, h.4)
 fits_covering m base (Varied' x ms q outer) u env h = absurd h.2
+fits_covering m base (Drawn' x e p within draw q outer) u env h = absurd h.3
 
 pub meets_covering : (m : Mode) (base : Env) (scope : Scope) (u : Unfolding) (env : Env) (e : Resolved) →
     Meets m u base scope env e → Meets covering u base scope env e
@@ -224,6 +226,9 @@ fits_agree m u base (Covered' x s q outer) env h =
 fits_agree m u base (Varied' x ms q outer) env h =
     subst (λ f. Agree (x.now ∷ names_of outer) base f) (sym h.4)
     (agree_bind x.now h.0 (names_of outer) base h.1 (fits_agree m u base outer h.1 h.3))
+fits_agree m u base (Drawn' x e p within draw q outer) env h =
+    subst (λ f. Agree (x.now ∷ names_of outer) base f) (sym h.7)
+    (agree_bind x.now h.0 (names_of outer) base h.2 (fits_agree m u base outer h.2 h.6))
 
 pub fits_base : (m : Case) (u : Unfolding) (base : Env) (scope : Scope) (env : Env) → FitsIn m u base scope env → StandsFor u base
 fits_base m u base Top env h = h.0
@@ -231,6 +236,7 @@ fits_base m u base (Open' x e p within q outer) env h = fits_base m u base outer
 fits_base m u base (Held' x s i q outer) env h = fits_base m u base outer h.1 h.3
 fits_base m u base (Covered' x s q outer) env h = fits_base m u base outer h.1 h.3
 fits_base m u base (Varied' x ms q outer) env h = fits_base m u base outer h.1 h.3
+fits_base m u base (Drawn' x e p within draw q outer) env h = fits_base m u base outer h.2 h.6
 
 -- without variables, names mean what is declared
 pub meets_top : (m : Mode) (u : Unfolding) (base : Env) (e : Resolved) → StandsFor u base → IsResolved u base [] e → Meets m u base Top base e

@@ -20,5 +20,6 @@ pub mod Placing
 pub mod Quantifying
 pub mod Rows
 pub mod Several
+pub mod Turnwise
 pub mod ValueWalk
 pub mod Within

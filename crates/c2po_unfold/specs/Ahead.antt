@@ -22,10 +22,10 @@ use Rattle.c2po_nodes.specs.Nodes.{formula}
 use Rattle.c2po_unfold.specs.Environment.{Env}
 use Rattle.c2po_unfold.specs.Heads.{Heads, HeadsIn}
 use Rattle.c2po_unfold.specs.Holding.{Holds}
-use Rattle.c2po_unfold.specs.Resolving.{AllResolved, resolved_body, resolved_value, resolved_values}
-use Rattle.c2po_unfold.specs.Scopes.{FitsIn, MeetsIn, names_of}
+use Rattle.c2po_unfold.specs.Resolving.{resolved_body, resolved_value}
+use Rattle.c2po_unfold.specs.Scopes.{MeetsIn}
 use Rattle.c2po_unfold.specs.Summaries.{IsSummary, gathered}
-use Rattle.c2po_unfold.specs.Values.{Value, formula_of, list_of, members}
+use Rattle.c2po_unfold.specs.Values.{Value, formula_of, members}
 use Rattle.c2po_unfold.specs.Weights.{weight as weight_of}
 
 -- what is known for the value with a number
@@ -59,18 +59,22 @@ pub record IsAheadIn (u : Unfolding) (scope : Scope) (q : Quantified) (set : Hea
       → j < ahead.count → slice_get (members s) (ahead.start + j) ≡ Some v
       → KnownFor m ahead.each (i + length paths * j) (resolved_body q env v)
 
--- the same where the set is one of these expressions
-pub record IsOpenAhead (u : Unfolding) (scope within : Scope) (q : Quantified) (es : List Resolved) (paths : List Path)
+-- the same where the set is that of an expression
+pub record IsDrawnAhead (u : Unfolding) (scope within : Scope) (q : Quantified) (set : Resolved) (paths : List Path)
     (ahead : Ahead) : Type 0 where
-  pub holds : (m : Mode) (base around env : Env) (i j : ℕ) (p : Path) (v : Value) → slice_get paths i ≡ Some p
-      → MeetsBodyIn (chosen m (path_of p)) u base scope env q → FitsIn (chosen m (path_of p)) u base within around
-      → AllResolved u base (names_of within) es → j < ahead.count
-      → slice_get (list_of (resolved_values es around)) (ahead.start + j) ≡ Some v
+  pub holds : (m : Mode) (base inner env : Env) (i j : ℕ) (p : Path) (v : Value) → slice_get paths i ≡ Some p
+      → MeetsBodyIn (chosen m (path_of p)) u base scope env q → MeetsIn (chosen m (path_of p)) u base within inner set
+      → j < ahead.count → slice_get (members (resolved_value set inner)) (ahead.start + j) ≡ Some v
       → KnownFor m ahead.each (i + length paths * j) (resolved_body q env v)
 
 -- the stored value with a number among these represents a value
 abbrev pub HoldsFor : Unfolding → List Stored → ℕ → Value → Type 0
 HoldsFor u ss i v = (s : Stored) × (slice_get ss i ≡ Some s) × Holds u s v
+
+-- what is known of an expression in the cases of these paths is so
+pub record IsTold (u : Unfolding) (scope : Scope) (e : Resolved) (paths : List Path) (each : Each) : Type 0 where
+  pub holds : (m : Mode) (base env : Env) (i : ℕ) (p : Path) → slice_get paths i ≡ Some p
+      → MeetsIn (chosen m (path_of p)) u base scope env e → KnownFor m each i (resolved_value e env)
 
 -- a value is that of the member with a number
 abbrev pub HasMember : Mode → Unfolding → List Member → ℕ → Value → Type 0
@@ -90,6 +94,24 @@ pub record AreListed (u : Unfolding) (scope : Scope) (paths : List Path) (es : L
   pub each : (m : Mode) (base env : Env) (i j : ℕ) (p : Path) (e : Resolved) → slice_get paths i ≡ Some p → j < t
       → slice_get es j ≡ Some e → MeetsIn (chosen m (path_of p)) u base scope env e
       → HasMember m u all (i + length paths * j) (resolved_value e env)
+
+-- members say what is known of expressions from the one with a number on, in each of these cases, one expression after
+-- the other
+pub record AreLight (u : Unfolding) (scope : Scope) (paths : List Path) (es : List Resolved) (start : ℕ)
+    (all : List Member) : Type 0 where
+  pub each : (m : Mode) (base env : Env) (i j : ℕ) (p : Path) (e : Resolved) → slice_get paths i ≡ Some p
+      → i + length paths * j < length all → slice_get es (start + j) ≡ Some e
+      → MeetsIn (chosen m (path_of p)) u base scope env e
+      → HasMember m u all (i + length paths * j) (resolved_value e env)
+
+-- what is known of bodies that were checked together is so for the values of these members, member after member, each
+-- in all cases
+pub record IsTurnAhead (u : Unfolding) (scope : Scope) (q : Quantified) (paths : List Path) (turns : List Member)
+    (ahead : Ahead) : Type 0 where
+  pub holds : (m : Mode) (base env : Env) (i j : ℕ) (p : Path) (v : Value) → slice_get paths i ≡ Some p
+      → MeetsBodyIn (chosen m (path_of p)) u base scope env q → j < ahead.count
+      → HasMember m u turns (i + length paths * j) v
+      → KnownFor m ahead.each (i + length paths * j) (resolved_body q env v)
 
 -- the same where each variable has one value
 pub record IsAhead (u : Unfolding) (scope : Scope) (q : Quantified) (set : Head) (ahead : Ahead) : Type 0 where

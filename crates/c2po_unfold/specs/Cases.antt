@@ -2,14 +2,16 @@
 
 use Rattle.std.specs.Prelude.{ℕ, ◌≡◌, Some, List, slice_get, take}
 use Rattle.c2po_unfold.specs.declared.path.Path.{Path}
+use Rattle.c2po_unfold.specs.declared.path.Turn.{Turn}
 use Rattle.c2po_unfold.specs.declared.scope.Choice.{Choice}
+use Rattle.c2po_unfold.specs.declared.scope.Draw.{Draw}
 use Rattle.c2po_unfold.specs.declared.scope.Member.{Member}
 use Rattle.c2po_unfold.specs.declared.unfolding.Unfolding.{Unfolding}
 use Rattle.c2po_unfold.specs.declared.values.Stored.{Stored}
 use Rattle.c2po_unfold.specs.Covering.{Mode}
 use Rattle.c2po_unfold.specs.Holding.{Holds}
 use Rattle.c2po_unfold.specs.Summaries.{IsSummary}
-use Rattle.c2po_unfold.specs.Values.{Value}
+use Rattle.c2po_unfold.specs.Values.{Value, members}
 
 -- how variables are meant: each has one value, or the one that a case chooses, by a number for each level at which
 -- members differ
@@ -47,3 +49,10 @@ IsVaried (only m) u choice v = ⊥
 IsVaried (chosen m path) u choice v =
     (k : ℕ) × (slice_get path choice.level ≡ Some k)
     × ((x : Member) → slice_get choice.members.now k ≡ Some x → IsMember m u x v)
+
+-- a value is the member of a set that is listed for the number that the case has at the level of the draw
+abbrev pub IsDrawn : Case → Draw → (set : Value) → Value → Type 0
+IsDrawn (only m) draw s v = ⊥
+IsDrawn (chosen m path) draw s v =
+    (k : ℕ) × (slice_get path draw.level ≡ Some k)
+    × ((t : Turn) → slice_get draw.turns.now k ≡ Some t → slice_get (members s) t.member ≡ Some v)

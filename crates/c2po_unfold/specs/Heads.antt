@@ -1,12 +1,14 @@
 -- What names and picked fields lead to.
 
-use Rattle.std.specs.Prelude.{ℕ, ◌≡◌, Bool, true, false, Some, List, [], slice_get}
+use Rattle.std.specs.Prelude.{ℕ, ◌≡◌, ⊤, Bool, true, false, Some, List, [], slice_get}
 use Rattle.c2po_ast.specs.Shape as tree
 use Rattle.c2po_ast.specs.Shape.{Shape}
 use Rattle.c2po_unfold.specs.declared.scope.Led.{Led}
 use Rattle.c2po_unfold.specs.declared.scope.Led.TheVariants as led
 use Rattle.c2po_unfold.specs.declared.scope.Head.{Head}
 use Rattle.c2po_unfold.specs.declared.scope.Head.TheVariants as head
+use Rattle.c2po_unfold.specs.declared.drawing.Shared.{Shared}
+use Rattle.c2po_unfold.specs.declared.drawing.Shared.TheVariants as shared
 use Rattle.c2po_unfold.specs.declared.values.Location.TheVariants.{Parts as PartsAt}
 use Rattle.c2po_unfold.specs.declared.values.Stored.{Stored}
 use Rattle.c2po_unfold.specs.declared.values.Whole.TheVariants as whole
@@ -15,9 +17,9 @@ use Rattle.c2po_unfold.specs.Values.{Value, leaf, structure, set, built, grouped
 use Rattle.c2po_unfold.specs.Environment.{Env}
 use Rattle.c2po_unfold.specs.Holding.{Holds, HoldAll}
 use Rattle.c2po_unfold.specs.Resolving.{AllResolved, IsResolved, is_operation, resolved_value, resolved_values}
-use Rattle.c2po_unfold.specs.declared.scope.Scope.{Scope, Top, Open', Held', Covered', Varied'}
+use Rattle.c2po_unfold.specs.declared.scope.Scope.{Scope, Top, Open', Held', Covered', Varied', Drawn'}
 use Rattle.c2po_unfold.specs.Scopes.{FitsIn, names_of}
-use Rattle.c2po_unfold.specs.Cases.{Case, only, mode_in, IsVaried}
+use Rattle.c2po_unfold.specs.Cases.{Case, only, mode_in, IsDrawn, IsVaried}
 use Rattle.c2po_unfold.specs.Covering.{Mode}
 use Rattle.c2po_unfold.specs.Summaries.{IsOfLeaf}
 
@@ -38,6 +40,8 @@ IsEntry c u base (Open' x e _ within _ outer) v = (env : Env) × FitsIn c u base
 IsEntry c u base (Held' x s i _ outer) v = Holds u s v
 IsEntry c u base (Covered' x s _ outer) v = IsOfLeaf (mode_in c) s.now v
 IsEntry c u base (Varied' x choice _ outer) v = IsVaried c u choice v
+IsEntry c u base (Drawn' x e _ within draw _ outer) v = (env : Env) × IsDrawn c draw (resolved_value e.now env) v
+    × FitsIn c u base within env × IsResolved u base (names_of within) e.now
 
 -- an expression as it is read: a number, a Boolean, an operator or a quantifier
 abbrev pub is_operator : Shape → Bool
@@ -83,3 +87,8 @@ HeadsIn c u base (head.Varied choice) v = IsVaried c u choice v
 -- the same where each variable has one value
 abbrev pub Heads : Mode → Unfolding → Env → Head → Value → Type 0
 Heads m = HeadsIn (only m)
+
+-- what an expression leads to in several cases has a value in one of them; nothing is said where it differs
+abbrev pub IsShared : Case → Unfolding → Env → Shared → Value → Type 0
+IsShared c u base (shared.Head h) v = HeadsIn c u base h v
+IsShared c u base (shared.Apart draw) v = ⊤

@@ -2,10 +2,10 @@
 
 use Rattle.std.specs.Prelude.{ℕ, ◌≡◌, List, [], ◌∷◌}
 use Rattle.c2po_unfold.specs.declared.resolved.Resolved.{Resolved}
-use Rattle.c2po_unfold.specs.declared.scope.Scope.{Scope, Top, Open', Held', Covered', Varied'}
+use Rattle.c2po_unfold.specs.declared.scope.Scope.{Scope, Top, Open', Held', Covered', Varied', Drawn'}
 use Rattle.c2po_unfold.specs.declared.unfolding.Unfolding.{Unfolding}
 use Rattle.c2po_unfold.specs.Values.{Value}
-use Rattle.c2po_unfold.specs.Cases.{Case, only, mode_in, IsVaried}
+use Rattle.c2po_unfold.specs.Cases.{Case, only, mode_in, IsDrawn, IsVaried}
 use Rattle.c2po_unfold.specs.Covering.{Mode}
 use Rattle.c2po_unfold.specs.Environment.{Env, bind}
 use Rattle.c2po_unfold.specs.Holding.{Holds, StandsFor}
@@ -19,6 +19,7 @@ names_of (Open' x e _ within _ outer) = x.now ∷ names_of outer
 names_of (Held' x s i _ outer) = x.now ∷ names_of outer
 names_of (Covered' x s _ outer) = x.now ∷ names_of outer
 names_of (Varied' x choice _ outer) = x.now ∷ names_of outer
+names_of (Drawn' x e _ within draw _ outer) = x.now ∷ names_of outer
 
 -- variables within an unfolding represent an environment in a case, over the meanings of declared names
 abbrev pub FitsIn : Case → Unfolding → Env → Scope → Env → Type 0
@@ -33,6 +34,10 @@ FitsIn c u base (Covered' x s _ outer) env =
     × (env ≡ bind x.now v around)
 FitsIn c u base (Varied' x choice _ outer) env =
     (v : Value) × (around : Env) × IsVaried c u choice v × FitsIn c u base outer around × (env ≡ bind x.now v around)
+FitsIn c u base (Drawn' x e _ within draw _ outer) env =
+    (v : Value) × (inner : Env) × (around : Env) × IsDrawn c draw (resolved_value e.now inner) v
+    × FitsIn c u base within inner × IsResolved u base (names_of within) e.now × FitsIn c u base outer around
+    × (env ≡ bind x.now v around)
 
 -- the same, and the names of an expression within them are resolved
 pub record MeetsIn (c : Case) (u : Unfolding) (base : Env) (scope : Scope) (env : Env) (e : Resolved) : Type 0 where

@@ -12,7 +12,7 @@ ghost use Rattle.c2po_unfold.specs.declared.operators.BinaryOp.TheVariants.{Comp
 ghost use Rattle.c2po_unfold.specs.declared.scope.Head.TheVariants.{Held as HeldSet};
 ghost use Rattle.c2po_unfold.specs.declared.summary.Summary.{Summary as Found};
 ghost use Rattle.c2po_unfold.specs.declared.values.Stored.{Stored as Held};
-ghost use Rattle.c2po_unfold.specs.Ahead.{AreListed, GatheredFor, HasMember, IsAhead, IsAheadIn, IsListed, IsOpenAhead, KnownFor, RowsLead, known_at};
+ghost use Rattle.c2po_unfold.specs.Ahead.{AreListed, GatheredFor, HasMember, IsAhead, IsAheadIn, IsListed, KnownFor, RowsLead, known_at};
 ghost use Rattle.c2po_unfold.specs.Bodies.{MeetsBodyIn};
 ghost use Rattle.c2po_unfold.specs.Cases.{IsVaried};
 ghost use Rattle.c2po_unfold.specs.Covering.{Mode};

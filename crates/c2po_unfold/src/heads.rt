@@ -1,12 +1,12 @@
 //! What names and picked fields lead to, without a look at what they leave aside.
 
-ghost use Rattle.std.specs.Prelude.{◌≡◌, ℕ, List, MatchOption, Some, IfSome, length, position, slice_get, IfOk, IfErr};
+ghost use Rattle.std.specs.Prelude.{◌≡◌, ◌∷◌, ℕ, List, MatchOption, Some, IfSome, length, position, slice_get, IfOk, IfErr};
 ghost use Rattle.std.specs.Str.{bytes_eq};
 ghost use Rattle.c2po_unfold.specs.declared.resolved.Row.{Row as Line};
 ghost use Rattle.c2po_unfold.specs.declared.fault.UnfoldFault.TheVariants.{Memory};
 ghost use Rattle.c2po_unfold.specs.Cases.{Case};
 ghost use Rattle.c2po_unfold.specs.Covering.{Mode};
-ghost use Rattle.c2po_unfold.specs.Environment.{Env, fields_in, value_in};
+ghost use Rattle.c2po_unfold.specs.Environment.{Env, bind, fields_in, value_in};
 ghost use Rattle.c2po_unfold.specs.Heads.{Heads, HeadsIn, HoldMembers, IsEntry, IsLed, IsOf, IsOther};
 ghost use Rattle.c2po_unfold.specs.Holding.{Holds, StandsFor};
 ghost use Rattle.c2po_unfold.specs.Resolving.{IsBound, IsPlace, resolved_value};
@@ -43,7 +43,7 @@ fn is_named(own: &Name, name: &Name) -> bool
 
 impl<'a> Scope<'a> {
     /// The variable of a name, with those around it; `Scope::Top` where there is none.
-    fn entry(&'a self, name: &Name) -> &'a Scope<'a>
+    pub(crate) fn entry(&'a self, name: &Name) -> &'a Scope<'a>
         ensures { (c : Case) (u : Unfolding) (base env : Env) → FitsIn c u base self.now env
             → IsBound (names_of self.now) name.now
             → IsEntry c u base result.now (value_in (env name.now)) }
@@ -54,10 +54,12 @@ impl<'a> Scope<'a> {
             Scope::Held { name: own, .. } if is_named(own, name) => self,
             Scope::Covered { name: own, .. } if is_named(own, name) => self,
             Scope::Varied { name: own, .. } if is_named(own, name) => self,
+            Scope::Drawn { name: own, .. } if is_named(own, name) => self,
             Scope::Open { outer, .. } => outer.entry(name),
             Scope::Held { outer, .. } => outer.entry(name),
             Scope::Covered { outer, .. } => outer.entry(name),
             Scope::Varied { outer, .. } => outer.entry(name),
+            Scope::Drawn { outer, .. } => outer.entry(name),
         }
     }
 
@@ -73,6 +75,7 @@ impl<'a> Scope<'a> {
             Scope::Held { stored, index, .. } => Led::Held(*stored, *index),
             Scope::Covered { summary, .. } => Led::Covered(summary),
             Scope::Varied { choice, .. } => Led::Varied(*choice),
+            Scope::Drawn { draw, .. } => Led::Varied(draw.unlisted()),
         }
     }
 
@@ -118,7 +121,8 @@ impl Unfolding {
             Scope::Open { name, outer, .. }
             | Scope::Held { name, outer, .. }
             | Scope::Covered { name, outer, .. }
-            | Scope::Varied { name, outer, .. } => {
+            | Scope::Varied { name, outer, .. }
+            | Scope::Drawn { name, outer, .. } => {
                 if whole.bytes() == name.bytes() {
                     None
                 } else {
@@ -129,7 +133,7 @@ impl Unfolding {
     }
 
     /// The place of a field among those of a struct, at the hint where that is of this struct.
-    fn hinted_place(
+    pub(crate) fn hinted_place(
         &self,
         scope: &Scope<'_>,
         whole: &Name,
@@ -248,6 +252,7 @@ impl Unfolding {
                 Scope::Held { stored, .. } => Ok(Head::Held(*stored)),
                 Scope::Covered { summary, .. } => Ok(Head::Covered(summary)),
                 Scope::Varied { choice, .. } => Ok(Head::Varied(*choice)),
+                Scope::Drawn { draw, .. } => Ok(Head::Varied(draw.unlisted())),
                 Scope::Top => Ok(Head::Nothing(scope, e)),
             },
             Resolved::Column(e, name, rows) => match scope.found(name, rows.as_slice()) {
@@ -377,5 +382,39 @@ impl Unfolding {
             },
             Head::Nothing(..) | Head::Struct(..) | Head::Leaf(..) | Head::Covered(_) => Ok(*set),
         }
+    }
+
+    /// The scope in which a variable is member `i` of a set: what that leads to, or its expression where it leads to another value
+    /// from case to case.
+    #[inline(always)]
+    pub(crate) fn bound_member<'a>(
+        &self,
+        levels: u32,
+        name: &'a Name,
+        set: &Head<'a>,
+        i: usize,
+        outer: &'a Scope<'a>,
+    ) -> Result<Scope<'a>, UnfoldFault>
+        ensures names { IfOk result (λ r. names_of r ≡ name.now ∷ names_of outer.now) }
+        ensures fits { (c : Case) (base env : Env) (s v : Value)
+            → FitsIn c self.now base outer.now env → HeadsIn c self.now base set.now s
+            → slice_get (members s) i ≡ Some v
+            → IfOk result (λ r. FitsIn c self.now base r (bind name.now v env)) }
+    {
+        let head = self.member(levels, set, i)?;
+        if let (Head::Set(within, _, members), Head::Varied(choice)) = (*set, head) {
+            if !choice.is_listed() {
+                let Some(expr) = members.get(i) else {
+                    return Ok(Scope::bound(name, head, i, outer));
+                };
+                return Ok(Scope::Open {
+                    name,
+                    expr,
+                    within,
+                    outer,
+                });
+            }
+        }
+        Ok(Scope::bound(name, head, i, outer))
     }
 }

@@ -61,11 +61,6 @@ pub(crate) struct Known {
 }
 
 impl Way {
-    /// No bodies are checked together.
-    pub(crate) fn alone() -> Way {
-        Way::Alone
-    }
-
     /// Whether bodies with quantifiers within are checked together.
     pub(crate) fn is_nested(self) -> bool {
         matches!(self, Way::Nested)

@@ -12,19 +12,20 @@ ghost use Rattle.c2po_unfold.specs.Bodies.{MeetsBodyIn};
 ghost use Rattle.c2po_unfold.specs.Cases.{chosen, path_of};
 ghost use Rattle.c2po_unfold.specs.Covering.{Mode};
 ghost use Rattle.c2po_unfold.specs.Environment.{Env};
-ghost use Rattle.c2po_unfold.specs.Lanes.{AreLanes, AreLooked};
+ghost use Rattle.c2po_unfold.specs.Lanes.{AreLanes, AreLooked, IsSetIn, IsSetOf};
+ghost use Rattle.c2po_unfold.specs.declared.lanes.Sets.TheVariants.{Held as HeldSets, Led};
 ghost use Rattle.c2po_unfold.specs.Operators.{binary_value};
-ghost use Rattle.c2po_unfold.specs.Resolving.{resolved_bodies};
+ghost use Rattle.c2po_unfold.specs.Resolving.{resolved_bodies, resolved_body};
 ghost use Rattle.c2po_unfold.specs.Summaries.{IsSummary};
 ghost use Rattle.c2po_unfold.specs.Values.{Value, connected_all, counted, members};
 
 use crate::Unfolding;
 use crate::counting::Counting;
 use crate::each::{Each, Stop, add};
-use crate::path::{Cases, Path};
+use crate::path::{Cases, Path, Turn};
 use crate::resolved::Quantified;
 use crate::room::Room;
-use crate::scope::{Member, Site};
+use crate::scope::{Draw, Member, Site};
 use crate::summary::Summary;
 use crate::together::TOGETHER;
 use crate::values::Stored;
@@ -34,15 +35,17 @@ use std::alloc::{AllocError, Global};
 /// How many members are looked for at most, where some cases have none.
 const LOOKS: usize = 2 * TOGETHER;
 
-/// Which member of the set of which case.
+/// The sets that a quantifier goes over in cases.
 #[derive(Clone, Copy)]
-pub(crate) struct Turn {
-    pub case: usize,
-    pub member: usize,
+pub(crate) enum Sets<'a> {
+    /// The stored set of each case.
+    Held(&'a [Stored]),
+    /// What the quantifier's set leads to in each case.
+    Led,
 }
 
 /// Members of the sets of cases, one after the other, each with its turn and with the path of the case in which a variable is
-/// that member.
+/// that member. What is known of members is listed where the sets are stored.
 #[derive(Drop)]
 pub(crate) struct Lanes {
     pub turns: Vec<Turn>,
@@ -64,28 +67,10 @@ pub(crate) struct Over<'a> {
     pub at: Site<'a>,
     pub cases: Cases<'a>,
     pub bodies: Quantified<'a>,
-    /// The set of each case.
-    pub sets: &'a [Stored],
+    pub sets: Sets<'a>,
     /// The level at which a path says the member.
     pub level: usize,
     pub room: Room,
-}
-
-impl Turn {
-    /// The first member of the next case.
-    fn next_case(self) -> Result<Turn, Stop> {
-        Ok(Turn {
-            case: self.case.checked_add(1).ok_or(Stop::Alone)?,
-            member: 0,
-        })
-    }
-
-    /// Whether this is the same turn.
-    fn is(self, other: Turn) -> bool
-        ensures { result ≡ true → self ≡ other }
-    {
-        self.case == other.case && self.member == other.member
-    }
 }
 
 impl Lanes {
@@ -102,6 +87,18 @@ impl Lanes {
         })
     }
 
+    /// Puts a member of which nothing is listed after those that are there.
+    #[inline(always)]
+    fn push_turn(&mut self, turn: Turn, path: Path) -> Result<(), Stop>
+        ensures turns { OnOk result (self.new.turns.items ≡ self.old.turns.items ++ turn ∷ []) }
+        ensures members { self.new.members ≡ self.old.members }
+        ensures paths { OnOk result (self.new.paths.items ≡ self.old.paths.items ++ path ∷ []) }
+    {
+        add(&mut self.turns, turn)?;
+        add(&mut self.paths, path)?;
+        Ok(())
+    }
+
     /// Puts a stored member, of which this is known, after those that are there.
     #[inline(always)]
     fn push(&mut self, turn: Turn, summary: Summary, stored: Stored, path: Path) -> Result<(), Stop>
@@ -115,10 +112,8 @@ impl Lanes {
             stored: Some(stored),
             index: turn.member,
         };
-        add(&mut self.turns, turn)?;
-        add(&mut self.members, member)?;
-        add(&mut self.paths, path)?;
-        Ok(())
+        self.push_turn(turn, path)?;
+        add(&mut self.members, member)
     }
 }
 
@@ -212,7 +207,7 @@ impl Unfolding {
         if self.are_single(sets) && cases.are_numbered(level) {
             self.joined_singles(at, cases, bodies, sets, level, room)
         } else {
-            self.joined_over(at, cases, op, bodies, sets, room)
+            self.joined_over(at, cases, op, bodies, Sets::Held(sets), room)
         }
     }
 
@@ -246,19 +241,19 @@ impl Unfolding {
 
     /// The same, whatever the sizes of the sets.
     #[cycle(each)]
-    fn joined_over(
+    pub(crate) fn joined_over(
         &self,
         at: Site<'_>,
         cases: Cases<'_>,
         op: LogicOp,
         bodies: Quantified<'_>,
-        sets: &[Stored],
+        sets: Sets<'_>,
         room: Room,
     ) -> Result<Each, Stop>
         ensures { (m : Mode) (base env : Env) (i : ℕ) (p : CasePath) (s : Value)
             → slice_get cases.entry.paths.now i ≡ Some p
             → MeetsBodyIn (chosen m (path_of p)) self.now base at.entry.scope.now env bodies.entry
-            → HoldsFor self.now sets.now i s
+            → IsSetIn self.now at.entry.scope.now bodies.entry.set.now sets.entry m base env i p s
             → IfOk result
             (λ r. KnownFor m r i (connected_all op (resolved_bodies bodies.entry env s))) }
     {
@@ -286,12 +281,11 @@ impl Unfolding {
         ensures holds { (m : Mode) (base env : Env) (p : CasePath) (s : Value)
             → slice_get over.now.cases.paths.now i ≡ Some p
             → MeetsBodyIn (chosen m (path_of p)) self.now base over.now.at.scope.now env
-            over.now.bodies → HoldsFor self.now over.now.sets.now i s
+            over.now.bodies → IsSetOf self.now over.now m base env i p s
             → IfOk result (λ r. IsSummary m r
             (connected_all op (resolved_bodies over.now.bodies env s))) }
     {
-        let set = over.sets.get(i).ok_or(Stop::Alone)?;
-        let count = self.held_members(*set).len();
+        let count = self.set_count(over, i)?;
         let mut all = Summary::none();
         for j in 0..count {
             let turn = Turn { case: i, member: j };
@@ -311,13 +305,13 @@ impl Unfolding {
         op: CountOp,
         number: u64,
         bodies: Quantified<'_>,
-        sets: &[Stored],
+        sets: Sets<'_>,
         room: Room,
     ) -> Result<Each, Stop>
         ensures { (m : Mode) (base env : Env) (i : ℕ) (p : CasePath) (s : Value)
             → slice_get cases.entry.paths.now i ≡ Some p
             → MeetsBodyIn (chosen m (path_of p)) self.now base at.entry.scope.now env bodies.entry
-            → HoldsFor self.now sets.now i s
+            → IsSetIn self.now at.entry.scope.now bodies.entry.set.now sets.entry m base env i p s
             → IfOk result
             (λ r. KnownFor m r i (counted op number (resolved_bodies bodies.entry env s))) }
     {
@@ -346,12 +340,11 @@ impl Unfolding {
         ensures holds { (m : Mode) (base env : Env) (p : CasePath) (s : Value)
             → slice_get over.now.cases.paths.now i ≡ Some p
             → MeetsBodyIn (chosen m (path_of p)) self.now base over.now.at.scope.now env
-            over.now.bodies → HoldsFor self.now over.now.sets.now i s
+            over.now.bodies → IsSetOf self.now over.now m base env i p s
             → IfOk result (λ r. IsSummary m r
             (counted op number (resolved_bodies over.now.bodies env s))) }
     {
-        let set = over.sets.get(i).ok_or(Stop::Alone)?;
-        let members = self.held_members(*set).len();
+        let members = self.set_count(over, i)?;
         let mut all = Summary::none();
         for j in 0..members {
             let turn = Turn { case: i, member: j };
@@ -376,26 +369,55 @@ impl Unfolding {
         at: Site<'a>,
         cases: Cases<'a>,
         bodies: Quantified<'a>,
-        sets: &'a [Stored],
+        sets: Sets<'a>,
         room: Room,
     ) -> Over<'a>
         ensures at { result.at ≡ at.entry }
         ensures cases { result.cases ≡ cases.entry }
         ensures bodies { result.bodies ≡ bodies.entry }
-        ensures sets { result.sets.now ≡ sets.now }
+        ensures sets { result.sets ≡ sets.entry }
     {
-        let level = if self.are_single(sets) {
-            cases.level().saturating_sub(1)
-        } else {
-            cases.level()
-        };
-        Over {
+        let over = Over {
             at,
             cases,
             bodies,
             sets,
-            level,
+            level: cases.level(),
             room,
+        };
+        if self.goes_over_single(&over) {
+            let level = over.level.saturating_sub(1);
+            Over { level, ..over }
+        } else {
+            over
+        }
+    }
+
+    /// Whether the set of each case has one member: its cases are those that there are.
+    fn goes_over_single(&self, over: &Over<'_>) -> bool {
+        match over.sets {
+            Sets::Held(sets) => self.are_single(sets),
+            Sets::Led => self.are_single_in(over.at, over.cases, over.bodies.set),
+        }
+    }
+
+    /// The number of members of the set of a case.
+    #[inline(always)]
+    fn set_count(&self, over: &Over<'_>, i: usize) -> Result<usize, Stop>
+        ensures { (m : Mode) (base env : Env) (p : CasePath) (s : Value)
+            → slice_get over.now.cases.paths.now i ≡ Some p
+            → IsSetOf self.now over.now m base env i p s
+            → IfOk result (λ count. count ≡ length (members s)) }
+    {
+        match over.sets {
+            Sets::Held(sets) => {
+                let set = sets.get(i).ok_or(Stop::Alone)?;
+                Ok(self.held_members(*set).len())
+            }
+            Sets::Led => {
+                let path = over.cases.paths.get(i).ok_or(Stop::Alone)?;
+                self.count_in(over.at, path, over.bodies.set)
+            }
         }
     }
 
@@ -455,14 +477,49 @@ impl Unfolding {
         ensures { IfOk result (AreLooked self.now over.now) }
     {
         let lanes = self.lanes(over, turn)?;
-        let within = over.cases.along(lanes.paths.as_slice());
-        let members = lanes.members.as_slice();
-        let each = self.each_body(over.at, within, over.bodies, members, over.level, over.room)?;
+        let each = self.each_lane(over, &lanes)?;
         Ok(Looked {
             lanes,
             each,
             next: 0,
         })
+    }
+
+    /// What is known of the bodies for these members.
+    #[cycle(each)]
+    fn each_lane(&self, over: &Over<'_>, lanes: &Lanes) -> Result<Each, Stop>
+        requires { AreLanes self.now over.now lanes.now }
+        ensures { (m : Mode) (base env : Env) (l : ℕ) (t : Turn) (p : CasePath) (s v : Value)
+            → slice_get lanes.now.turns.items l ≡ Some t
+            → slice_get over.now.cases.paths.now t.case ≡ Some p
+            → MeetsBodyIn (chosen m (path_of p)) self.now base over.now.at.scope.now env
+            over.now.bodies → IsSetOf self.now over.now m base env t.case p s
+            → slice_get (members s) t.member ≡ Some v
+            → IfOk result (λ r. KnownFor m r l (resolved_body over.now.bodies env v)) }
+    {
+        let within = over.cases.along(lanes.paths.as_slice());
+        match over.sets {
+            Sets::Held(_) => {
+                let members = lanes.members.as_slice();
+                self.each_body(over.at, within, over.bodies, members, over.level, over.room)
+            }
+            Sets::Led => {
+                let draw = Draw {
+                    turns: lanes.turns.as_slice(),
+                    level: over.level,
+                };
+                let scope = over.at.scope;
+                self.drawn_body(
+                    over.at,
+                    within,
+                    over.bodies,
+                    scope,
+                    over.bodies.set,
+                    draw,
+                    over.room,
+                )
+            }
+        }
     }
 
     /// The members of the sets from a turn on that are looked at together.
@@ -472,25 +529,35 @@ impl Unfolding {
         let mut lanes = Lanes::none(self.alloc)?;
         let mut turn = turn;
         for _ in 0..LOOKS {
-            if lanes.members.len() >= TOGETHER || turn.case >= over.cases.len() {
+            if lanes.turns.len() >= TOGETHER || turn.case >= over.cases.len() {
                 break;
             }
-            self.add_case(over, turn, &mut lanes)?;
+            match over.sets {
+                Sets::Held(sets) => self.add_held(over, sets, turn, &mut lanes)?,
+                Sets::Led => self.add_led(over, turn, &mut lanes)?,
+            }
             turn = turn.next_case()?;
         }
         Ok(lanes)
     }
 
-    /// Puts the members of a case from a turn on after others, as long as there is room.
-    fn add_case(&self, over: &Over<'_>, turn: Turn, lanes: &mut Lanes) -> Result<(), Stop>
-        requires { AreLanes self.now over.now lanes.old }
+    /// Puts the members of a stored set, which is that of a case, from a turn on after others, as long as there is room.
+    fn add_held(
+        &self,
+        over: &Over<'_>,
+        sets: &[Stored],
+        turn: Turn,
+        lanes: &mut Lanes,
+    ) -> Result<(), Stop>
+        requires sets { over.now.sets ≡ HeldSets sets }
+        requires lanes { AreLanes self.now over.now lanes.old }
         ensures { OnOk result (AreLanes self.now over.now lanes.new) }
     {
-        let set = over.sets.get(turn.case).ok_or(Stop::Alone)?;
+        let set = sets.get(turn.case).ok_or(Stop::Alone)?;
         let members = self.held_members(*set);
         let path = over.cases.paths.get(turn.case).ok_or(Stop::Alone)?;
         for member in turn.member..members.len() {
-            let count = lanes.members.len();
+            let count = lanes.turns.len();
             if count >= TOGETHER {
                 break;
             }
@@ -498,6 +565,26 @@ impl Unfolding {
             let path = path.reaching(over.level, count).ok_or(Stop::Alone)?;
             let turn = Turn { member, ..turn };
             lanes.push(turn, self.held(*stored), *stored, path)?;
+        }
+        Ok(())
+    }
+
+    /// Puts the members of the set that a case leads to from a turn on after others, as long as there is room.
+    fn add_led(&self, over: &Over<'_>, turn: Turn, lanes: &mut Lanes) -> Result<(), Stop>
+        requires sets { over.now.sets ≡ Led }
+        requires lanes { AreLanes self.now over.now lanes.old }
+        ensures { OnOk result (AreLanes self.now over.now lanes.new) }
+    {
+        let members = self.set_count(over, turn.case)?;
+        let path = over.cases.paths.get(turn.case).ok_or(Stop::Alone)?;
+        for member in turn.member..members {
+            let count = lanes.turns.len();
+            if count >= TOGETHER {
+                break;
+            }
+            let path = path.reaching(over.level, count).ok_or(Stop::Alone)?;
+            let turn = Turn { member, ..turn };
+            lanes.push_turn(turn, path)?;
         }
         Ok(())
     }

@@ -6,7 +6,10 @@
 //! visited.
 #![tactic(auto)]
 
+mod bodies;
 pub mod counting;
+mod drawing;
+mod drawn;
 mod each;
 pub mod fact;
 pub mod fault;

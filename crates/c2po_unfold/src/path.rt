@@ -5,6 +5,7 @@ ghost use Rattle.c2po_unfold.specs.Cases.{HasReached, IsReached, path_of};
 ghost use Rattle.c2po_unfold.specs.declared.path.Path.{Path as CasePath};
 
 use crate::each::{Stop, add};
+use crate::scope::Draw;
 use std::alloc::Global;
 
 /// How many numbers a path has at most.
@@ -15,6 +16,30 @@ const LEVELS: usize = 15;
 pub struct Path {
     numbers: [u8; LEVELS],
     count: u8,
+}
+
+/// Which member of the set of which case.
+#[derive(Clone, Copy)]
+pub struct Turn {
+    pub case: usize,
+    pub member: usize,
+}
+
+impl Turn {
+    /// The first member of the next case.
+    pub(crate) fn next_case(self) -> Result<Turn, Stop> {
+        Ok(Turn {
+            case: self.case.checked_add(1).ok_or(Stop::Alone)?,
+            member: 0,
+        })
+    }
+
+    /// Whether this is the same turn.
+    pub(crate) fn is(self, other: Turn) -> bool
+        ensures { result ≡ true → self ≡ other }
+    {
+        self.case == other.case && self.member == other.member
+    }
 }
 
 impl Path {
@@ -48,13 +73,21 @@ impl Path {
 
     /// Whether it has this number at a level.
     #[inline(always)]
-    fn has(&self, level: usize, number: usize) -> bool
+    pub(crate) fn has(&self, level: usize, number: usize) -> bool
         ensures { result ≡ true → slice_get (path_of self.now) level ≡ Some number }
     {
         match self.at(level) {
             Some(own) => own == number,
             None => false,
         }
+    }
+
+    /// Whether this is the same path.
+    #[inline(always)]
+    pub(crate) fn is(&self, other: &Path) -> bool
+        ensures { result ≡ true → self.now ≡ other.now }
+    {
+        self.numbers == other.numbers && self.count == other.count
     }
 
     /// The path with this number at a level: this one if it has it there, else with one number more; `None` where there is no
@@ -96,7 +129,7 @@ pub(crate) struct Cases<'a> {
 
 /// The number of the case that is in turn.
 #[inline(always)]
-fn turn(l: usize, count: usize) -> usize
+fn place(l: usize, count: usize) -> usize
     requires { 0 < count }
     ensures { result ≡ l % count }
 {
@@ -145,6 +178,23 @@ impl<'a> Cases<'a> {
         true
     }
 
+    /// The paths of those cases that draw what the first one does, or of all others.
+    pub(crate) fn parted(
+        self,
+        alloc: Global,
+        draw: Draw<'_>,
+        like: bool,
+    ) -> Result<Vec<Path>, Stop> {
+        let first = self.paths.get(0).ok_or(Stop::Alone)?;
+        let mut paths = Vec::with_capacity(alloc, self.len())?;
+        for path in self.paths {
+            if draw.joins(first, path) == like {
+                add(&mut paths, *path)?;
+            }
+        }
+        Ok(paths)
+    }
+
     /// A path for each case in each of so many rounds, with its number at a level.
     pub(crate) fn rounds(self, alloc: Global, level: usize, count: usize) -> Result<Vec<Path>, Stop>
         ensures length { IfOk result
@@ -156,7 +206,7 @@ impl<'a> Cases<'a> {
         let all = self.len().checked_mul(count).ok_or(Stop::Alone)?;
         let mut paths = Vec::with_capacity(alloc, all)?;
         for l in 0..all {
-            let path = self.paths.get(turn(l, self.len())).ok_or(Stop::Alone)?;
+            let path = self.paths.get(place(l, self.len())).ok_or(Stop::Alone)?;
             let path = path.reaching(level, l).ok_or(Stop::Alone)?;
             add(&mut paths, path)?;
         }

@@ -6,6 +6,9 @@ ghost use Rattle.mltl_base.specs.declared.limits.TheConstants.{MAX_WEIGHT};
 use crate::UnfoldFault;
 use std::marker::Model;
 
+/// What a value weighs at most that is looked at before it is asked for.
+const LIGHT: u32 = 16;
+
 /// The weight that is left for a value, at most MAX_WEIGHT.
 #[derive(Clone, Copy)]
 pub(crate) struct Room {
@@ -41,6 +44,13 @@ impl Room {
         ensures limit { result ≤ MAX_WEIGHT }
     {
         self.left
+    }
+
+    /// Returns the room of a light value, or what is left where that is less.
+    pub(crate) fn light(self) -> Room {
+        Room {
+            left: self.left.min(LIGHT),
+        }
     }
 
     /// Returns the room that a weight leaves, and `Heavy` where the weight is above the room.

@@ -1,17 +1,17 @@
 //! Variables of quantifiers, which are members of sets that aren't unfolded yet.
 
-ghost use Rattle.std.specs.Prelude.{◌≡◌, ◌∷◌, [], IfSome};
+ghost use Rattle.std.specs.Prelude.{◌≡◌, ◌∷◌, [], Some, IfSome, slice_get};
 ghost use Rattle.c2po_unfold.specs.declared.unfolding.Unfolding.{Unfolding};
 ghost use Rattle.c2po_unfold.specs.Ahead.{RowsLead};
-ghost use Rattle.c2po_unfold.specs.Cases.{Case, IsMember, IsVaried, chosen, path_of};
+ghost use Rattle.c2po_unfold.specs.Cases.{Case, IsDrawn, IsMember, IsVaried, chosen, path_of};
 ghost use Rattle.c2po_unfold.specs.Covering.{Mode};
 ghost use Rattle.c2po_unfold.specs.Holding.{Holds};
 ghost use Rattle.c2po_unfold.specs.Environment.{Env, bind};
 ghost use Rattle.c2po_unfold.specs.Heads.{HeadsIn};
 ghost use Rattle.c2po_unfold.specs.Scopes.{FitsIn, names_of};
-ghost use Rattle.c2po_unfold.specs.Values.{Value};
+ghost use Rattle.c2po_unfold.specs.Values.{Value, members};
 
-use crate::path::Path;
+use crate::path::{Path, Turn};
 use crate::resolved::{Resolved, Row};
 use crate::summary::Summary;
 use crate::values::Stored;
@@ -48,6 +48,23 @@ pub enum Scope<'a> {
         choice: Choice<'a>,
         outer: &'a Scope<'a>,
     },
+    /// The variable is a member of a set, which has a separate scope: another one from case to case.
+    Drawn {
+        name: &'a Name,
+        set: &'a Resolved,
+        within: &'a Scope<'a>,
+        draw: Draw<'a>,
+        outer: &'a Scope<'a>,
+    },
+}
+
+/// Which member of a set each case draws.
+#[derive(Clone, Copy)]
+pub struct Draw<'a> {
+    /// The member in the set, for each number that a path can have at the level.
+    pub turns: &'a [Turn],
+    /// Which number of a case's path says the member.
+    pub level: usize,
 }
 
 /// What differs from case to case: one of these members, or any value where that isn't listed.
@@ -89,6 +106,24 @@ impl<'a> Choice<'a> {
         self.members.get(path.at(self.level)?)
     }
 
+    /// Whether its first member is a stored value with parts.
+    pub(crate) fn is_whole(self) -> bool {
+        match self.members.get(0) {
+            Some(
+                Member {
+                    stored: Some(stored),
+                    ..
+                },
+            ) => stored.is_whole(),
+            _ => false,
+        }
+    }
+
+    /// Whether its members are listed.
+    pub(crate) fn is_listed(self) -> bool {
+        !self.members.is_empty()
+    }
+
     /// What a column has for the member that a case chooses, if that is stored.
     #[inline(always)]
     pub(crate) fn found<'b>(self, path: &Path, rows: &'b [Row]) -> Option<&'b Stored>
@@ -104,6 +139,28 @@ impl<'a> Choice<'a> {
         } else {
             None
         }
+    }
+}
+
+impl<'a> Draw<'a> {
+    /// Any value, at the same level.
+    pub(crate) fn unlisted(self) -> Choice<'a>
+        ensures { (c : Case) (u : Unfolding) (s v : Value) → IsDrawn c self.entry s v
+            → IsVaried c u result v }
+    {
+        Choice {
+            members: &[],
+            level: self.level,
+        }
+    }
+
+    /// The number of the member that a case draws, if it draws one.
+    pub(crate) fn member(self, path: &Path) -> Option<usize>
+        ensures { (m : Mode) (s v : Value) → IsDrawn (chosen m (path_of path.now)) self.entry s v
+            → IfSome result (λ j. slice_get (members s) j ≡ Some v) }
+    {
+        let turn = self.turns.get(path.at(self.level)?)?;
+        Some(turn.member)
     }
 }
 
@@ -144,14 +201,6 @@ pub enum Head<'a> {
     Covered(&'a Summary),
     /// A value that differs from case to case.
     Varied(Choice<'a>),
-}
-
-impl Head<'_> {
-    /// Whether this is a struct's value or a set that is written out.
-    #[inline(always)]
-    pub(crate) fn is_written(&self) -> bool {
-        matches!(self, Head::Struct(..) | Head::Set(..))
-    }
 }
 
 impl<'a> Scope<'a> {

@@ -10,7 +10,7 @@ ghost use Rattle.c2po_unfold.specs.declared.operators.BinaryOp.TheVariants.{Logi
 ghost use Rattle.c2po_unfold.specs.declared.scope.Head.TheVariants.{Held as HeldSet};
 ghost use Rattle.c2po_unfold.specs.declared.summary.Summary.{Summary as Found};
 ghost use Rattle.c2po_unfold.specs.declared.values.Stored.{Stored as Held};
-ghost use Rattle.c2po_unfold.specs.Ahead.{AreListed, GatheredFor, HasMember, IsAhead, IsAheadIn, IsListed, IsOpenAhead, KnownFor, RowsLead, known_at};
+ghost use Rattle.c2po_unfold.specs.Ahead.{AreLight, AreListed, GatheredFor, HasMember, IsAhead, IsAheadIn, IsListed, IsTurnAhead, KnownFor, RowsLead, known_at};
 ghost use Rattle.c2po_unfold.specs.Bodies.{MeetsBodyIn};
 ghost use Rattle.c2po_unfold.specs.Cases.{IsVaried, chosen, path_of};
 ghost use Rattle.c2po_unfold.specs.Covering.{Mode};
@@ -25,6 +25,7 @@ ghost use Rattle.c2po_unfold.specs.Values.{Value, connected_all, counted, member
 ghost use Rattle.c2po_unfold.specs.declared.path.Path.{Path as CasePath};
 
 use crate::counting::Counting;
+use crate::drawing::Shared;
 use crate::each::{Each, Stop, add};
 use crate::fact::Fact;
 use crate::fault::deeper;
@@ -47,7 +48,7 @@ pub(crate) const TOGETHER: usize = 64;
 const FEW: usize = TOGETHER / 2;
 
 /// The members from one on that are looked at together, where there are `count` cases already.
-fn group<T>(members: &[T], start: usize, count: usize) -> Option<&[T]>
+pub(crate) fn group<T>(members: &[T], start: usize, count: usize) -> Option<&[T]>
     ensures { IfSome result (λ some. (j : ℕ) (x : T) → slice_get some.now j ≡ Some x
         → slice_get members.now (start + j) ≡ Some x) }
 {
@@ -89,7 +90,7 @@ impl Unfolding {
             (IsAhead self.now at.entry.scope.now bodies.entry set.now)) }
         ensures memory { IfErr result (λ why. why ≡ Memory) }
     {
-        if self.member_count(set) < 2 || self.is_written(at.depth, set, i) {
+        if self.member_count(set) < 2 {
             return Ok(None);
         }
         let cases = Cases {
@@ -103,28 +104,28 @@ impl Unfolding {
         }
     }
 
-    /// Whether a member of a set is a struct's value or a set that is written out, of which nothing is known together.
-    fn is_whole(&self, depth: u32, within: &Scope<'_>, members: &[Resolved], i: usize) -> bool {
-        match members.get(i) {
-            Some(e) => matches!(
-                self.head(depth, within, e),
-                Ok(Head::Struct(..) | Head::Set(..))
-            ),
-            None => false,
-        }
-    }
-
-    /// The same of a set that may be stored.
-    fn is_written(&self, depth: u32, set: &Head<'_>, i: usize) -> bool {
-        match *set {
-            Head::Set(within, _, members) => self.is_whole(depth, within, members, i),
+    /// Whether a member of a set is probably a struct's value or a set, of which nothing is listed: it is in the first case.
+    fn is_whole(&self, at: Site<'_>, cases: Cases<'_>, members: &[Resolved], i: usize) -> bool {
+        let (Some(first), Some(e)) = (cases.paths.get(..1), members.get(i)) else {
+            return false;
+        };
+        match self.head_in(at.depth, first, at.scope, e) {
+            Ok(Shared::Head(Head::Struct(..) | Head::Set(..))) => true,
+            Ok(Shared::Head(Head::Held(stored))) => stored.is_whole(),
+            Ok(Shared::Head(Head::Varied(choice))) => choice.is_whole(),
             _ => false,
         }
     }
 
     /// What is known of an expression in each case, once for all cases where it is the same in all.
     #[cycle(each)]
-    fn each(&self, at: Site<'_>, cases: Cases<'_>, e: &Resolved, room: Room) -> Result<Each, Stop>
+    pub(crate) fn each(
+        &self,
+        at: Site<'_>,
+        cases: Cases<'_>,
+        e: &Resolved,
+        room: Room,
+    ) -> Result<Each, Stop>
         ensures { (m : Mode) (base env : Env) (i : ℕ) (p : CasePath)
             → slice_get cases.entry.paths.now i ≡ Some p
             → MeetsIn (chosen m (path_of p)) self.now base at.entry.scope.now env e.now
@@ -171,8 +172,14 @@ impl Unfolding {
                 self.each_joined(at, cases, *op, Quantified { name, set, body }, room)
             }
             Resolved::Counted(op, number, name, set, body) => {
-                let bodies = Quantified { name, set, body };
-                self.each_counted(at, cases, *op, *number, bodies, room)
+                self.each_counted(
+                    at,
+                    cases,
+                    *op,
+                    *number,
+                    Quantified { name, set, body },
+                    room,
+                )
             }
             Resolved::Column(_, name, rows) => {
                 self.each_column(at, cases, e, name, rows.as_slice(), room)
@@ -198,8 +205,8 @@ impl Unfolding {
         match self.head(at.depth, at.scope, e)? {
             Head::Held(stored) => Ok(Each::Same(self.held(stored))),
             Head::Covered(summary) => Ok(Each::Same(*summary)),
-            Head::Varied(choice) if choice.members.is_empty() => self.each_traced(at, cases, e),
-            Head::Varied(choice) => self.each_member(choice, cases),
+            Head::Varied(choice) if choice.is_listed() => self.each_member(choice, cases),
+            Head::Varied(_) => self.each_led(at, cases, e, room),
             Head::Leaf(scope, e) => self.each(Site { scope, ..at }, cases, e, room),
             Head::Nothing(..) | Head::Struct(..) | Head::Set(..) => Err(Stop::Alone),
         }
@@ -224,7 +231,7 @@ impl Unfolding {
             → IfOk result (λ r. KnownFor m r i (resolved_value e.now env)) }
     {
         match at.scope.variable(name) {
-            Led::Varied(choice) => self.each_row(choice, rows, cases),
+            Led::Varied(choice) if choice.is_listed() => self.each_row(choice, rows, cases),
             _ => self.each_head(at, cases, e, room),
         }
     }
@@ -253,7 +260,7 @@ impl Unfolding {
     }
 
     /// What is known in each case of the member that it chooses.
-    fn each_member(&self, choice: Choice<'_>, cases: Cases<'_>) -> Result<Each, Stop>
+    pub(crate) fn each_member(&self, choice: Choice<'_>, cases: Cases<'_>) -> Result<Each, Stop>
         ensures { (m : Mode) (i : ℕ) (p : CasePath) (v : Value)
             → slice_get cases.entry.paths.now i ≡ Some p
             → IsVaried (chosen m (path_of p)) self.now choice.entry v
@@ -303,8 +310,7 @@ impl Unfolding {
         }
         let set = self.head(at.depth, at.scope, bodies.set)?;
         if let Head::Varied(_) = set {
-            let sets = self.traced(at, cases, bodies.set)?;
-            return self.joined_sets(at, cases, op, bodies, sets.as_slice(), room);
+            return self.joined_apart(at, cases, op, bodies, room);
         }
         let count = self.shared_count(&set).ok_or(Stop::Alone)?;
         if count == 0 {
@@ -345,8 +351,7 @@ impl Unfolding {
         }
         let set = self.head(at.depth, at.scope, bodies.set)?;
         if let Head::Varied(_) = set {
-            let sets = self.traced(at, cases, bodies.set)?;
-            return self.counted_over(at, cases, op, number, bodies, sets.as_slice(), room);
+            return self.counted_apart(at, cases, op, number, bodies, room);
         }
         let members = self.shared_count(&set).ok_or(Stop::Alone)?;
         if members == 0 {
@@ -408,14 +413,26 @@ impl Unfolding {
         ensures start { IfOk result (λ r. r.start ≡ i) }
         ensures some { IfOk result (λ r. 0 < r.count) }
     {
+        if cases.len() > FEW {
+            return self.one_body(at, cases, bodies, set, i, room);
+        }
         match *set {
-            Head::Held(stored) if cases.len() <= FEW && is_followed(self.held_members(stored), i) =>
-                { self.held_bodies(at, cases, bodies, stored, i, room) }
-            Head::Set(within, _, members)
-                if cases.len() <= FEW
-                    && is_followed(members, i)
-                    && !self.is_whole(at.depth, within, members, i) => {
-                self.open_bodies(at, cases, bodies, within, members, i, room)
+            Head::Held(stored) if is_followed(self.held_members(stored), i) => {
+                self.held_bodies(at, cases, bodies, stored, i, room)
+            }
+            Head::Set(within, e, members) if is_followed(members, i) => {
+                let own = Site {
+                    scope: within,
+                    ..at
+                };
+                match self.light_members(own, cases, members, i, room)? {
+                    Some(turns) => {
+                        let turns = turns.as_slice();
+                        let ahead = self.open_bodies(at, cases, bodies, turns, i, room)?;
+                        Ok(ahead)
+                    }
+                    None => self.drawn_bodies(at, cases, bodies, within, e, members, i, room),
+                }
             }
             _ => self.one_body(at, cases, bodies, set, i, room),
         }
@@ -437,8 +454,7 @@ impl Unfolding {
         ensures start { IfOk result (λ r. r.start ≡ i) }
         ensures some { IfOk result (λ r. 0 < r.count) }
     {
-        let head = self.member(at.depth, set, i)?;
-        let scope = &Scope::bound(&*bodies.name, head, i, &*at.scope);
+        let scope = &self.bound_member(at.depth, &*bodies.name, set, i, &*at.scope)?;
         let each = self.each(Site { scope, ..at }, cases, bodies.body, room)?;
         Ok(Ahead {
             start: i,
@@ -510,39 +526,61 @@ impl Unfolding {
         self.each(Site { scope, ..at }, cases, bodies.body, room)
     }
 
-    /// What is known in each case of the bodies of a quantifier from member `i` of a set on that isn't stored, together.
+    /// Members for cases from member `i` of a set on that isn't stored; nothing where they are structs' values or sets, or where
+    /// one is heavy, since no body may ask for it.
+    #[cycle(each)]
+    fn light_members(
+        &self,
+        at: Site<'_>,
+        cases: Cases<'_>,
+        set: &[Resolved],
+        i: usize,
+        room: Room,
+    ) -> Result<Option<Vec<Member>>, Stop>
+        ensures { IfOk result (λ r. IfSome r (λ turns. AreLight self.now at.entry.scope.now
+            cases.entry.paths.now set.now i turns.items)) }
+    {
+        if self.is_whole(at, cases, set, i) {
+            return Ok(None);
+        }
+        let members = group(set, i, cases.len()).ok_or(Stop::Alone)?;
+        match self.listed(at, cases, members, room.light()) {
+            Ok(turns) => Ok(Some(turns)),
+            Err(Stop::Alone) => Ok(None),
+            Err(Stop::Memory) => Err(Stop::Memory),
+        }
+    }
+
+    /// What is known in each case of the bodies of a quantifier from member `i` of a set on that isn't stored, together, by what
+    /// is known of these members.
     #[cycle(each)]
     fn open_bodies(
         &self,
         at: Site<'_>,
         cases: Cases<'_>,
         bodies: Quantified<'_>,
-        within: &Scope<'_>,
-        set: &[Resolved],
+        turns: &[Member],
         i: usize,
         room: Room,
     ) -> Result<Ahead, Stop>
-        ensures ahead { IfOk result (IsOpenAhead self.now at.entry.scope.now within.now
-            bodies.entry set.now cases.entry.paths.now) }
+        ensures ahead { IfOk result (IsTurnAhead self.now at.entry.scope.now bodies.entry
+            cases.entry.paths.now turns.now) }
         ensures start { IfOk result (λ r. r.start ≡ i) }
         ensures some { IfOk result (λ r. 0 < r.count) }
+        ensures within { IfOk result
+            (λ r. length cases.entry.paths.now * r.count ≤ length turns.now) }
     {
-        let members = group(set, i, cases.len()).ok_or(Stop::Alone)?;
-        if members.is_empty() {
+        let count = turns.len().checked_div(cases.len()).ok_or(Stop::Alone)?;
+        if count == 0 {
             return Err(Stop::Alone);
         }
-        let site = Site {
-            depth: at.depth,
-            scope: &*within,
-        };
-        let turns = self.listed(site, cases, members, room)?;
         let level = cases.level();
-        let paths = cases.rounds(self.alloc, level, members.len())?;
+        let paths = cases.rounds(self.alloc, level, count)?;
         let within = cases.along(paths.as_slice());
-        let each = self.each_body(at, within, bodies, turns.as_slice(), level, room)?;
+        let each = self.each_body(at, within, bodies, turns, level, room)?;
         Ok(Ahead {
             start: i,
-            count: members.len(),
+            count,
             each,
         })
     }

@@ -12,9 +12,9 @@ loop-l-preserved c =
     let l = c.loop-l.l in
     let own = c.in_ok-path.path.now in
     let new = c.in_ok-path-2.path in
-    let at : slice_get paths c.turn.result ≡ Some own =
-    lent_at paths c.turn.result c.get.result c.in_ok-path.path c.get.ensures.lookup c.in_ok-path.ensures.ok_part in
-    let place = c.turn.ensures ∙ ap (λ n. l % n) c.len-in-loop-l.ensures in
+    let at : slice_get paths c.place.result ≡ Some own =
+    lent_at paths c.place.result c.get.result c.in_ok-path.path c.get.ensures.lookup c.in_ok-path.ensures.ok_part in
+    let place = c.place.ensures ∙ ap (λ n. l % n) c.len-in-loop-l.ensures in
     let reached = subst (λ o. IfSome o (λ r. IsReached (path_of own) (path_of r) level l)) c.in_ok-path-2.ensures.ok_part c.reaching.ensures in
     rounds_more paths level l c.loop-l.paths.items c.add.new.all.items new c.loop-l.invariant c.in_ok-add.ensures
     (λ p there. subst (λ q. IsReached (path_of q) (path_of new) level l) (same_Some own p (sym (subst (λ k. slice_get paths k ≡ Some own) place at) ∙ there)) reached)

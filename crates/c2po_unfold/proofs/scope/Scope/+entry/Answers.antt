@@ -31,3 +31,10 @@ returns-in-Varied-2 t c = λ m u base env h b.
     let k = subst (λ s. IsBound (names_of s) c.args.name.now) c.in-Varied-2.is b in
     entry_outer m u base c.entry-in-Varied-2.result.now c.in-Varied-2.name.now c.args.name.now g.0 env g.1
     (names_of c.in-Varied-2.outer.now) g.4 (cc) k (λ j. c.entry-in-Varied-2.ensures m u base g.1 g.3 j)
+
+pub returns-in-Drawn-2 : goal.returns-in-Drawn-2
+returns-in-Drawn-2 t c = λ m u base env h b.
+    let g = subst (λ s. FitsIn m u base s env) c.in-Drawn-2.is h in
+    let k = subst (λ s. IsBound (names_of s) c.args.name.now) c.in-Drawn-2.is b in
+    entry_outer m u base c.entry-in-Drawn-2.result.now c.in-Drawn-2.name.now c.args.name.now g.0 env g.2
+    (names_of c.in-Drawn-2.outer.now) g.7 (cc) k (λ j. c.entry-in-Drawn-2.ensures m u base g.2 g.6 j)

@@ -1,31 +1,35 @@
-use Rattle.std.proofs.Common.{rules, FitsSigned, w64, ℕ, ◌≡◌, ◌+◌, ◌-◌, ◌*◌, ◌<◌, ◌≤◌, List, Bor, Some, IfOk, IfSome, refl, sym, subst, ap, ◌∙◌, length, get_or, slice_get, take, false, arith, []}
+use Rattle.std.proofs.Common.{rules, FitsSigned, w64, ℕ, ◌≡◌, ◌+◌, ◌-◌, ◌*◌, ◌<◌, ◌≤◌, List, Bor, Vec, Global, Some, IfOk, IfSome, refl, sym, subst, ap, ◌∙◌, length, get_or, slice_get, take, false, arith, []}
 use Rattle.std.proofs.lemmas.Int.{to_z-of_z}
 use Rattle.mltl_base.specs.declared.operators.LogicOp.TheVariants.{And}
 use Rattle.mltl_base.specs.Atoms.{constant}
 use Rattle.c2po_nodes.specs.Nodes.{number}
-use Rattle.c2po_unfold.specs.Ahead.{GatheredFor, HasMember, HoldsFor, IsAheadIn, IsListed, KnownFor, IsGathered}
+use Rattle.c2po_unfold.specs.Ahead.{AreLight, GatheredFor, HasMember, HoldsFor, IsAheadIn, IsListed, KnownFor, IsGathered}
 use Rattle.c2po_unfold.specs.Cases.{chosen, path_of}
 use Rattle.c2po_unfold.specs.Environment.{bind, value_in}
 use Rattle.c2po_unfold.specs.Facts.{Tells}
-use Rattle.c2po_unfold.specs.Heads.{HeadsIn, IsLed}
+use Rattle.c2po_unfold.specs.Heads.{HeadsIn, IsLed, IsShared}
 use Rattle.c2po_unfold.specs.Resolving.{IsResolved, resolved_bodies, resolved_body, resolved_value}
 use Rattle.c2po_unfold.specs.Scopes.{names_of}
 use Rattle.c2po_unfold.specs.Summaries.{IsSummary}
 use Rattle.c2po_unfold.specs.Values.{connected_all, counted, integer, members, truth_value}
 use Rattle.c2po_unfold.proofs.Cases.{binary_meets, binary_same, body_meets, first_case, body_further, varied_here, part_meets, unary_meets, unary_same}
 use Rattle.c2po_unfold.proofs.Columns.{column_bound, column_holds}
+use Rattle.c2po_unfold.proofs.Turnwise.{light_ahead, meets_further, some_light}
 use Rattle.c2po_unfold.proofs.Loops.{bodies_by, bodies_count, body_at, joined_one, meets_within, member_at, none_left}
 use Rattle.std.proofs.lemmas.List.{take_all}
 use Rattle.c2po_unfold.proofs.Joining.{gathered_next, gathered_start, joined_all, joined_more, joined_start}
 use Rattle.c2po_unfold.proofs.Parts.{member_held}
-use Rattle.c2po_unfold.proofs.Several.{are_listed_more, no_stored, known_more, lent_at}
-use Rattle.c2po_unfold.proofs.Members.{found_at, resolved_at, value_at}
-use Rattle.c2po_unfold.specs.declared.resolved.Resolved.{Resolved, Truth}
+use Rattle.c2po_unfold.specs.Lanes.{IsHeldSet, IsSetIn}
+use Rattle.c2po_unfold.specs.declared.path.Turn.{Turn}
+use Rattle.c2po_unfold.proofs.Several.{are_listed_more, no_stored, known_more}
+use Rattle.c2po_unfold.proofs.Members.{found_at}
+use Rattle.c2po_unfold.specs.declared.resolved.Resolved.{Resolved}
+use Rattle.c2po_unfold.specs.declared.scope.Member.{Member}
 use Rattle.std.proofs.lemmas.Option.{same_Some, slice_get-get_or, slice_get_within}
 use Rattle.c2po_unfold.specs.declared.known.Ahead.{Ahead}
 use Rattle.c2po_unfold.specs.declared.values.Stored.{Stored}
 use Rattle.c2po_unfold.specs.declared.summary.Summary.{Summary}
-use Rattle.c2po_unfold.proofs.Lanewise.{IsAt, OfLanes, all_bodies, gathered_lanes_more, joined_lanes_more, lane_count, lanes_known}
+use Rattle.c2po_unfold.proofs.Lanewise.{IsAt, OfLanes, all_bodies, gathered_lanes_more, joined_lanes_more, lanes_known}
 use Rattle.c2po_unfold.proofs.unfolding.Unfolding.+each.Goals as goal
 use Rattle.c2po_unfold.proofs.unfolding.Unfolding.+each.Goals.{each_gathered-then-i-ahead+in_ok-ahead, each_gathered-else-i-ahead, each_joined-then-i-ahead+in_ok-ahead-2, each_joined-else-i-ahead}
 
@@ -100,8 +104,8 @@ each_column-returns-in-Varied t c = λ m base env i p inside h bound lead.
 pub each_column-returns-in_default : goal.each_column-returns-in_default
 each_column-returns-in_default t c = λ m base env i p inside h bound lead. c.each_head.ensures m base env i p inside h
 
-pub each_head-returns-in-Varied-2 : goal.each_head-returns-in-Varied-2
-each_head-returns-in-Varied-2 t c = λ m base env i p inside h.
+pub each_head-returns-in-Varied : goal.each_head-returns-in-Varied
+each_head-returns-in-Varied t c = λ m base env i p inside h.
     let k = chosen m (path_of p) in
     let v = resolved_value c.args.e.now env in
     c.each_member.ensures m i p v inside
@@ -131,11 +135,10 @@ one_body-returns t c = record {
         let k = chosen m (path_of p) in
         let first : c.args.i + j ≡ c.args.i = omega (arith, one) in
         let place : i ≡ i + (length c.args.cases.paths.now) * j = first_case i (length c.args.cases.paths.now) j one in
-        let head = c.in_ok-head.ensures.head k base s v heads (subst (λ p. slice_get (members s) p ≡ Some v) first at) in
-        let fits = c.bound.ensures.fits k c.args.self.now base env v h.fits head in
+        let fits = c.in_ok-scope.ensures.fits k base env s v h.fits heads (subst (λ p. slice_get (members s) p ≡ Some v) first at) in
         subst (λ p. KnownFor m c.in_ok-each.each p (resolved_body c.args.bodies env v)) place
         (c.in_ok-each.ensures m base (bind c.args.bodies.name.now v env) i p inside
-        (meets_within k c.args.self.now base c.args.at.scope.now c.bound.result env c.args.bodies v c.bound.ensures.names fits h.resolved));
+        (meets_within k c.args.self.now base c.args.at.scope.now c.in_ok-scope.field-0 env c.args.bodies v c.in_ok-scope.ensures.names fits h.resolved));
   };
   start = refl;
   some = omega arith;
@@ -291,52 +294,126 @@ held_bodies-returns-clause-ahead t c = record {
       (subst (λ ms. HasMember m u ms (i + n * j) v) (sym c.as_slice-2.ensures.value) turn);
 }
 
-pub open_bodies-returns-clause-ahead : goal.open_bodies-returns-clause-ahead
-open_bodies-returns-clause-ahead t c = record {
-  holds = λ m base around env i j p v inside h fits all within at.
-      let u = c.args.self.now in
-      let n = length c.args.cases.paths.now in
-      let es = c.args.set.now in
-      let group = c.in_ok-members.members.now in
-      let e = get_or group j (Truth false) in
-      let here : slice_get group j ≡ Some e = slice_get-get_or group j (Truth false) within in
-      let grouped = subst (λ o. IfSome o (λ (some : Bor (List Resolved)). (j : ℕ) (d : Resolved) → slice_get some.now j ≡ Some d → slice_get es (c.args.i + j) ≡ Some d))
-      c.in_ok-members.ensures.ok_part c.group.ensures in
-      let found = grouped j e here in
-      let same : resolved_value e around ≡ v = same_Some (resolved_value e around) v (sym (value_at es around (c.args.i + j) e found) ∙ at) in
-      let names = resolved_at es u base (names_of c.args.within.now) (c.args.i + j) e all found in
-      let turn = c.in_ok-turns.ensures.each m base around i j p e inside within here (record { fits = fits; resolved = names }) in
-      let reached = c.in_ok-paths.ensures.paths i j p inside within in
-      let there = subst (λ ps. slice_get ps (i + n * j) ≡ Some reached.0) (sym (c.along-within.ensures ∙ c.as_slice.ensures.value)) reached.1 in
-      c.in_ok-each.ensures m base env (i + n * j) reached.0 v there reached.2.there
-      (body_further m (path_of p) (path_of reached.0) c.level-level.result (i + n * j) u base c.args.at.scope.now env c.args.bodies reached.2 h)
-      (subst (λ ms. HasMember m u ms (i + n * j) v) (sym c.as_slice-2.ensures.value) (subst (λ w. HasMember m u c.in_ok-turns.turns.items (i + n * j) w) same turn));
-}
-
 pub each_joined-returns-in-Varied : goal.each_joined-returns-in-Varied
-each_joined-returns-in-Varied t c = λ m base env i p inside set body.
-    let v = resolved_value c.args.bodies.set.now env in
-    c.joined_sets.ensures m base env i p v inside body
-    (subst (λ ss. HoldsFor c.args.self.now ss i v) (sym c.as_slice.ensures.value) (c.in_ok-sets.ensures m base env i p inside set))
+each_joined-returns-in-Varied t c = λ m base env i p inside set body. c.joined_apart.ensures m base env i p inside set body
 
 pub each_counted-returns-in-Varied : goal.each_counted-returns-in-Varied
-each_counted-returns-in-Varied t c = λ m base env i p inside set body.
+each_counted-returns-in-Varied t c = λ m base env i p inside set body. c.counted_apart.ensures m base env i p inside set body
+
+pub joined_apart-returns-in-Ok : goal.joined_apart-returns-in-Ok
+joined_apart-returns-in-Ok t c = λ m base env i p inside set body.
+    let v = resolved_value c.args.bodies.set.now env in
+    c.joined_sets.ensures m base env i p v inside body
+    (subst (λ ss. HoldsFor c.args.self.now ss i v) (sym c.as_slice.ensures.value) (c.in-Ok.ensures m base env i p inside set))
+
+pub joined_apart-returns-in-Err-Alone : goal.joined_apart-returns-in-Err-Alone
+joined_apart-returns-in-Err-Alone t c = λ m base env i p inside set body.
+    c.joined_over.ensures m base env i p (resolved_value c.args.bodies.set.now env) inside body (set, refl)
+
+pub counted_apart-returns-in-Ok : goal.counted_apart-returns-in-Ok
+counted_apart-returns-in-Ok t c = λ m base env i p inside set body.
     let v = resolved_value c.args.bodies.set.now env in
     c.counted_over.ensures m base env i p v inside body
-    (subst (λ ss. HoldsFor c.args.self.now ss i v) (sym c.as_slice.ensures.value) (c.in_ok-sets.ensures m base env i p inside set))
+    (subst (λ ss. HoldsFor c.args.self.now ss i v) (sym c.as_slice.ensures.value) (c.in-Ok.ensures m base env i p inside set))
+
+pub counted_apart-returns-in-Err-Alone : goal.counted_apart-returns-in-Err-Alone
+counted_apart-returns-in-Err-Alone t c = λ m base env i p inside set body.
+    c.counted_over-in-Err-Alone.ensures m base env i p (resolved_value c.args.bodies.set.now env) inside body (set, refl)
+
+pub open_bodies-returns-clause-ahead : goal.open_bodies-returns-clause-ahead
+open_bodies-returns-clause-ahead t c = record {
+  holds = λ m base env i j p v inside h within has.
+      let u = c.args.self.now in
+      let number = i + (length c.args.cases.paths.now) * j in
+      let reached = c.in_ok-paths.ensures.paths i j p inside within in
+      let there = subst (λ ps. slice_get ps number ≡ Some reached.0) (sym (c.along-within.ensures ∙ c.as_slice.ensures.value)) reached.1 in
+      c.in_ok-each.ensures m base env number reached.0 v there reached.2.there
+      (body_further m (path_of p) (path_of reached.0) c.level-level.result number u base c.args.at.scope.now env c.args.bodies reached.2 h) has;
+}
+
+pub each_shared-returns-in-Held : goal.each_shared-returns-in-Held
+each_shared-returns-in-Held t c = λ m base i p v inside h. (
+  c.held.result,
+  refl,
+  c.held.ensures.holds m v (subst (λ d. HeadsIn (chosen m (path_of p)) c.args.self.now base d v) c.in-Held.is h),
+)
+
+pub each_shared-returns-in-Varied : goal.each_shared-returns-in-Varied
+each_shared-returns-in-Varied t c = λ m base i p v inside h.
+    c.each_member.ensures m i p v inside (subst (λ d. HeadsIn (chosen m (path_of p)) c.args.self.now base d v) c.in-Varied.is h)
+
+pub each_shared-returns-in-Leaf : goal.each_shared-returns-in-Leaf
+each_shared-returns-in-Leaf t c = λ m base i p v inside h.
+    let g = subst (λ d. HeadsIn (chosen m (path_of p)) c.args.self.now base d v) c.in-Leaf.is h in
+    subst (λ w. IfOk c.each.result (λ r. KnownFor m r i w)) (sym g.3)
+    (c.each.ensures m base g.0 i p inside (record { fits = g.1; resolved = g.2 }))
+
+pub drawn_body-returns : goal.drawn_body-returns
+drawn_body-returns t c = λ m base inner env i p v inside h set drawn.
+    c.each.ensures m base (bind c.args.bodies.name.now v env) i p inside
+    (record { fits = (v, inner, env, drawn, set.fits, set.resolved, h.fits, refl); resolved = h.resolved })
+
+pub drawn_bodies-returns-clause-ahead : goal.drawn_bodies-returns-clause-ahead
+drawn_bodies-returns-clause-ahead t c = record {
+  holds = λ m base inner env i j p v inside h set within at.
+      let u = c.args.self.now in
+      let n = length c.args.cases.paths.now in
+      let s = resolved_value c.args.set.now inner in
+      let reached = c.in_ok-paths.ensures.paths i j p inside within in
+      let level = c.level-level.result in
+      let number = i + n * j in
+      let there = subst (λ ps. slice_get ps number ≡ Some reached.0) (sym (c.along-rounds.ensures ∙ c.as_slice-2.ensures.value)) reached.1 in
+      let first = subst (λ k. i < k) (sym c.len-n.ensures) (slice_get_within c.args.cases.paths.now i p inside) in
+      c.in_ok-each.ensures m base inner env number reached.0 v there
+      (body_further m (path_of p) (path_of reached.0) level number u base c.args.at.scope.now env c.args.bodies reached.2 h)
+      (meets_further m (path_of p) (path_of reached.0) level number u base c.args.within.now inner c.args.set.now reached.2 set) (
+        number,
+        reached.2.there,
+        λ q own.
+            let turn = c.in_ok-turns.ensures i j q first
+            (subst (λ k. slice_get c.in_ok-turns.turns.items (i + k * j) ≡ Some q) (sym c.len-n.ensures)
+            (subst (λ ts. slice_get ts number ≡ Some q) c.as_slice.ensures.value own)) in
+            subst (λ k. slice_get (members s) k ≡ Some v) (sym turn) at,
+      );
+}
 
 pub look-returns : goal.look-returns
 look-returns t c = record {
-  each = λ m base env l r p s v at there meets holds member.
-      let u = c.args.self.now in
-      let over = c.args.over.now in
-      let found = c.in_ok-lanes.ensures.each m l r p s v at there holds member in
-      let path = found.0.0 in
-      let here = subst (λ ps. slice_get ps l ≡ Some path) (sym (c.along-within.ensures ∙ c.as_slice.ensures.value)) found.0.1 in
-      c.in_ok-each.ensures m base env l path v here found.0.2.there
-      (body_further m (path_of p) (path_of path) over.level l u base over.at.scope.now env over.bodies found.0.2 meets)
-      (subst (λ ms. HasMember m u ms l v) (sym c.as_slice-members.ensures.value) found.1);
+  each = λ m base env l r p s v at there meets of member. c.in_ok-each.ensures m base env l r p s v at there meets of member;
 }
+
+pub each_lane-returns-in-Held : goal.each_lane-returns-in-Held
+each_lane-returns-in-Held t c = λ m base env l r p s v at there meets of member.
+    let u = c.args.self.now in
+    let over = c.args.over.now in
+    let held = subst (λ ss. IsHeldSet u ss r.case s) (sym c.in-Held.is)
+    (subst (λ ss. IsSetIn u over.at.scope.now over.bodies.set.now ss m base env r.case p s) c.in-Held.is of) in
+    let reached = c.requires.reached l r p at there in
+    let path = reached.0 in
+    let here = subst (λ ps. slice_get ps l ≡ Some path) (sym (c.along-within.ensures ∙ c.as_slice.ensures.value)) reached.1 in
+    c.each_body.ensures m base env l path v here reached.2.there
+    (body_further m (path_of p) (path_of path) over.level l u base over.at.scope.now env over.bodies reached.2 meets)
+    (subst (λ ms. HasMember m u ms l v) (sym c.as_slice-members.ensures.value) (c.requires.each m l r s v at held member))
+
+pub each_lane-returns-in-Led : goal.each_lane-returns-in-Led
+each_lane-returns-in-Led t c = λ m base env l r p s v at there meets of member.
+    let u = c.args.self.now in
+    let over = c.args.over.now in
+    let scope = over.at.scope.now in
+    let set = over.bodies.set.now in
+    let led = subst (λ ss. IsSetIn u scope set ss m base env r.case p s) c.in-Led.is of in
+    let reached = c.requires.reached l r p at there in
+    let path = reached.0 in
+    let here = subst (λ ps. slice_get ps l ≡ Some path) (sym (c.along-within.ensures ∙ c.as_slice.ensures.value)) reached.1 in
+    c.drawn_body.ensures m base env env l path v here
+    (body_further m (path_of p) (path_of path) over.level l u base scope env over.bodies reached.2 meets)
+    (meets_further m (path_of p) (path_of path) over.level l u base scope env set reached.2 led.0) (
+      l,
+      reached.2.there,
+      λ q own.
+          let same : r ≡ q = same_Some r q (sym at ∙ subst (λ ts. slice_get ts l ≡ Some q) c.as_slice-in-Led.ensures.value own) in
+          subst (λ w. slice_get (members w) q.member ≡ Some v) led.1 (subst (λ (z : Turn). slice_get (members s) z.member ≡ Some v) same member),
+    )
 
 pub joined_in-loop-j-init : goal.joined_in-loop-j-init
 joined_in-loop-j-init t c = record { looked = c.requires; holds = λ m base env p s there meets holds. c.none-all.ensures.joined m c.args.op }
@@ -345,16 +422,11 @@ pub joined_in-loop-j-preserved : goal.joined_in-loop-j-preserved
 joined_in-loop-j-preserved t c =
     let u = c.args.self.now in
     let over = c.args.over.now in
-    let set = lent_at over.sets.now c.args.i c.get.result c.in_ok-set.set c.get.ensures.lookup c.in_ok-set.ensures.ok_part in
     let now = c.lane.new.looked in
     let found = subst (λ o. IfSome o (λ (s : Bor Summary). IsAt now (record { case = c.args.i; member = c.loop-j.j }) s.now)) c.in_ok-next.ensures.ok_part c.at.ensures in
     joined_lanes_more u over c.args.op c.args.i c.loop-j.j c.loop-j.all c.in_ok-all.all c.in_ok-next.next.now c.loop-j.looked now c.loop-j.invariant
     c.in_ok-place.ensures (now, found.0, c.in_ok-place.ensures, found.1, found.2)
-    (λ s holds. omega (
-      arith,
-      c.loop-j-test.true,
-      lane_count u over.sets.now c.held_members-count.result.now c.args.i c.in_ok-set.set.now s set c.held_members-count.ensures holds,
-    ))
+    (λ m base env p s there holds. omega (arith, c.loop-j-test.true, c.in_ok-count.ensures m base env p s there holds))
     (λ m w none h. c.in_ok-all.ensures.first m c.args.op w none h)
     (λ m v w some h k. c.in_ok-all.ensures.more m c.args.op v w some h k)
 
@@ -362,8 +434,7 @@ pub joined_in-returns-clause-holds : goal.joined_in-returns-clause-holds
 joined_in-returns-clause-holds t c = λ m base env p s there meets holds.
     let u = c.args.self.now in
     let over = c.args.over.now in
-    let set = lent_at over.sets.now c.args.i c.get.result c.in_ok-set.set c.get.ensures.lookup c.in_ok-set.ensures.ok_part in
-    let count = lane_count u over.sets.now c.held_members-count.result.now c.args.i c.in_ok-set.set.now s set c.held_members-count.ensures holds in
+    let count = c.in_ok-count.ensures m base env p s there holds in
     subst (λ vs. IsSummary m c.loop-j.all (connected_all c.args.op vs))
     (all_bodies over.bodies env s c.loop-j.j (omega (arith, count, c.loop-j-test.false, c.loop-j.auto.j-end)))
     (c.loop-j.invariant.holds m base env p s there meets holds)
@@ -378,16 +449,11 @@ pub counted_in-loop-j-preserved : goal.counted_in-loop-j-preserved
 counted_in-loop-j-preserved t c =
     let u = c.args.self.now in
     let over = c.args.over.now in
-    let set = lent_at over.sets.now c.args.i c.get.result c.in_ok-set.set c.get.ensures.lookup c.in_ok-set.ensures.ok_part in
     let now = c.lane.new.looked in
     let found = subst (λ o. IfSome o (λ (s : Bor Summary). IsAt now (record { case = c.args.i; member = c.loop-j.j }) s.now)) c.in_ok-next.ensures.ok_part c.at.ensures in
     gathered_lanes_more u over c.args.i c.loop-j.j c.loop-j.all c.in_ok-all.all c.in_ok-next.next.now c.loop-j.looked now c.loop-j.invariant
     c.in_ok-place.ensures (now, found.0, c.in_ok-place.ensures, found.1, found.2)
-    (λ s holds. omega (
-      arith,
-      c.loop-j-test.true,
-      lane_count u over.sets.now c.held_members-members.result.now c.args.i c.in_ok-set.set.now s set c.held_members-members.ensures holds,
-    ))
+    (λ m base env p s there holds. omega (arith, c.loop-j-test.true, c.in_ok-members.ensures m base env p s there holds))
     (λ m vs w h k. c.in_ok-all.ensures m vs w h k)
 
 pub counted_in-returns-then-members-eq0-clause-holds : goal.counted_in-returns-then-members-eq0-clause-holds
@@ -395,8 +461,7 @@ counted_in-returns-then-members-eq0-clause-holds t c = λ m base env p s there m
     let u = c.args.self.now in
     let over = c.args.over.now in
     let bodies = resolved_bodies over.bodies env s in
-    let set = lent_at over.sets.now c.args.i c.get.result c.in_ok-set.set c.get.ensures.lookup c.in_ok-set.ensures.ok_part in
-    let count = lane_count u over.sets.now c.held_members-members.result.now c.args.i c.in_ok-set.set.now s set c.held_members-members.ensures holds in
+    let count = c.in_ok-members.ensures m base env p s there holds in
     let none : bodies ≡ [] = none_left bodies (length bodies) refl (omega (arith, count, bodies_count over.bodies env s, c.if-members-eq0.true)) in
     let known = subst (IsGathered m c.loop-j.all)
     (all_bodies over.bodies env s c.loop-j.j (omega (arith, count, c.loop-j-test.false, c.loop-j.auto.j-end)) ∙ none)
@@ -408,9 +473,8 @@ counted_in-returns-clause-holds t c = λ m base env p s there meets holds.
     let u = c.args.self.now in
     let over = c.args.over.now in
     let bodies = resolved_bodies over.bodies env s in
-    let set = lent_at over.sets.now c.args.i c.get.result c.in_ok-set.set c.get.ensures.lookup c.in_ok-set.ensures.ok_part in
-    let count = lane_count u over.sets.now c.held_members-members.result.now c.args.i c.in_ok-set.set.now s set c.held_members-members.ensures holds in
-    let same : length c.held_members-members.result.now ≡ length bodies = omega (arith, count, bodies_count over.bodies env s) in
+    let count = c.in_ok-members.ensures m base env p s there holds in
+    let same : c.in_ok-members.members ≡ length bodies = omega (arith, count, bodies_count over.bodies env s) in
     c.in_ok-of.ensures m bodies same (omega (arith, same, c.if-members-eq0.false))
     (subst (IsGathered m c.loop-j.all) (all_bodies over.bodies env s c.loop-j.j (omega (arith, count, c.loop-j-test.false, c.loop-j.auto.j-end)))
     (c.loop-j.invariant.holds m base env p s there meets holds))
@@ -420,9 +484,9 @@ joined_over-loop-i-preserved t c =
     let u = c.args.self.now in
     let f = connected_all c.args.op in (
       c.in_ok-found.ensures.looked,
-      known_more (OfLanes u c.args.at.scope.now c.args.cases.paths.now c.args.bodies c.args.sets.now f) c.loop-i.i c.loop-i.all.items c.add.new.all.items
+      known_more (OfLanes u c.args.at.scope.now c.args.cases.paths.now c.args.bodies c.args.sets f) c.loop-i.i c.loop-i.all.items c.add.new.all.items
           c.in_ok-found.found c.loop-i.invariant.1 c.in_ok-add.ensures
-          (lanes_known u c.over-over.result c.args.at c.args.cases c.args.bodies c.args.sets.now f c.loop-i.i c.in_ok-found.found c.over-over.ensures.at
+          (lanes_known u c.over-over.result c.args.at c.args.cases c.args.bodies c.args.sets f c.loop-i.i c.in_ok-found.found c.over-over.ensures.at
           c.over-over.ensures.cases c.over-over.ensures.bodies c.over-over.ensures.sets c.in_ok-found.ensures.holds),
     )
 
@@ -437,9 +501,9 @@ counted_over-loop-i-preserved t c =
     let u = c.args.self.now in
     let f = counted c.args.op c.args.number in (
       c.in_ok-found.ensures.looked,
-      known_more (OfLanes u c.args.at.scope.now c.args.cases.paths.now c.args.bodies c.args.sets.now f) c.loop-i.i c.loop-i.all.items c.add.new.all.items
+      known_more (OfLanes u c.args.at.scope.now c.args.cases.paths.now c.args.bodies c.args.sets f) c.loop-i.i c.loop-i.all.items c.add.new.all.items
           c.in_ok-found.found c.loop-i.invariant.1 c.in_ok-add.ensures
-          (lanes_known u c.over-over.result c.args.at c.args.cases c.args.bodies c.args.sets.now f c.loop-i.i c.in_ok-found.found c.over-over.ensures.at
+          (lanes_known u c.over-over.result c.args.at c.args.cases c.args.bodies c.args.sets f c.loop-i.i c.in_ok-found.found c.over-over.ensures.at
           c.over-over.ensures.cases c.over-over.ensures.bodies c.over-over.ensures.sets c.in_ok-found.ensures.holds),
     )
 
@@ -467,3 +531,29 @@ joined_singles-returns t c = λ m op base env i p s there meets holds.
 pub joined_sets-returns-then-are_numbered : goal.joined_sets-returns-then-are_numbered
 joined_sets-returns-then-are_numbered t c = λ m base env i p s there meets holds.
     c.joined_singles.ensures m c.args.op base env i p s there meets holds
+
+pub each_drawn-returns-in-Head : goal.each_drawn-returns-in-Head
+each_drawn-returns-in-Head t c = λ m base env i p inside h.
+    let k = chosen m (path_of p) in
+    let v = resolved_value c.args.e.now env in
+    c.each_shared.ensures m base i p v inside
+    (subst (λ r. IsShared k c.args.self.now base r v) c.in-Head.is (c.in_ok-head.ensures m base env i p inside h))
+
+pub light_members-returns-in-Ok : goal.light_members-returns-in-Ok
+light_members-returns-in-Ok t c =
+    let es = c.args.set.now in
+    let some = c.in_ok-members.members.now in
+    let grouped = subst (λ o. IfSome o (λ (part : Bor (List Resolved)). (j : ℕ) (d : Resolved) → slice_get part.now j ≡ Some d → slice_get es (c.args.i + j) ≡ Some d))
+    c.in_ok-members.ensures.ok_part c.group.ensures in
+    some_light c.args.self.now c.args.at.scope.now c.args.cases.paths.now es some c.args.i c.in-Ok.turns.items c.in-Ok.ensures grouped
+
+pub bodies_from-returns-in_ok-ahead-in-Some-clause-ahead : goal.bodies_from-returns-in_ok-ahead-in-Some-clause-ahead
+bodies_from-returns-in_ok-ahead-in-Some-clause-ahead t c =
+    let u = c.args.self.now in
+    let paths = c.args.cases.paths.now in
+    let light = subst (λ o. IfSome o (λ (turns : Vec Member Global). AreLight u c.in-Set.within.now paths c.in-Set.members.now c.args.i turns.items)) c.in-Some.is
+    c.in_ok-turns-in-Set.ensures in
+    let ahead = c.in_ok-ahead-in-Some.ensures in
+    light_ahead u c.args.at.scope.now c.args.bodies c.args.set.now paths c.as_slice-turns.result.now c.in_ok-ahead-in-Some.ahead c.in-Set.within c.in-Set.e
+    c.in-Set.members c.args.i c.in-Set.is (subst (AreLight u c.in-Set.within.now paths c.in-Set.members.now c.args.i) (sym c.as_slice-turns.ensures.value) light)
+    ahead.ahead ahead.start ahead.within

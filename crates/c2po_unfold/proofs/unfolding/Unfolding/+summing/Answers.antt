@@ -400,15 +400,6 @@ next_body-returns-in_err-own-clause-heavy t c = λ m base env s v h heads at.
     rw (p.1, p.2) (λ e. c.in_err-own.ensures.heavy m base env v h (c.in_ok-head.ensures.head (only m) base s v heads at) e)
 
 -- a body for a member that is written out
-pub next_body-returns-then-is_written-clause-holds : goal.next_body-returns-then-is_written-clause-holds
-next_body-returns-then-is_written-clause-holds t c = λ m base env s v h heads at.
-    c.own_body.ensures.holds m base env v h (c.in_ok-head.ensures.head (only m) base s v heads at)
-
-pub next_body-returns-then-is_written-clause-heavy : goal.next_body-returns-then-is_written-clause-heavy
-next_body-returns-then-is_written-clause-heavy t c = λ m base env s v h heads at.
-    c.own_body.ensures.heavy m base env v h (c.in_ok-head.ensures.head (only m) base s v heads at)
-
--- bodies that are checked together
 pub shared_body-returns-in-Some-clause-holds : goal.shared_body-returns-in-Some-clause-holds
 shared_body-returns-in-Some-clause-holds t c = λ m base env s v h heads at own.
     subst (λ k. IsSummary m k (resolved_body c.args.bodies env v)) (sym c.summary-summary.ensures)

@@ -3,33 +3,36 @@ use Rattle.std.proofs.lemmas.Option.{same_Some}
 use Rattle.c2po_unfold.specs.Cases.{IsReached, path_of}
 use Rattle.c2po_unfold.specs.Holding.{Holds}
 use Rattle.c2po_unfold.specs.declared.path.Path.{Path}
-use Rattle.c2po_unfold.proofs.Lanewise.{lanes_more, own_holds}
+use Rattle.c2po_unfold.specs.Lanes.{IsHeldSet}
+use Rattle.c2po_unfold.proofs.Lanewise.{held_more, own_holds}
 use Rattle.c2po_unfold.proofs.Parts.{member_held}
 use Rattle.c2po_unfold.proofs.Several.{lent_at}
-use Rattle.c2po_unfold.proofs.unfolding.Unfolding.add_case.Goals as goal
+use Rattle.c2po_unfold.proofs.unfolding.Unfolding.add_held.Goals as goal
 
 pub loop-member-preserved : goal.loop-member-preserved
 loop-member-preserved c =
     let u = c.args.self.now in
     let over = c.args.over.now in
     let lanes = c.loop-member.lanes in
+    let sets = c.args.sets.now in
     let case = c.args.turn.case in
     let k = c.loop-member.member in
     let ms = c.held_members-members.result.now in
     let stored = c.in_ok-stored.stored.now in
     let path = c.in_ok-path-2.path in
-    lanes_more u over lanes c.push.new.self (record { case = case; member = k }) _ path c.loop-member.invariant c.in_ok-push.ensures.turns
+    held_more u over lanes c.push.new.self (record { case = case; member = k }) _ path c.loop-member.invariant c.in_ok-push.ensures.turns
     c.in_ok-push.ensures.members c.in_ok-push.ensures.paths
-    (λ m p s v there holds member.
+    (λ p there.
     let here = lent_at over.cases.paths.now case c.get-2.result c.in_ok-path.path c.get-2.ensures.lookup c.in_ok-path.ensures.ok_part in
     let same = same_Some c.in_ok-path.path.now p (sym here ∙ there) in
     let reached = subst (λ o. IfSome o (λ (r : Path). IsReached (path_of c.in_ok-path.path.now) (path_of r) over.level c.len-count.result)) c.in_ok-path-2.ensures.ok_part
     c.reaching.ensures in
-    let own = own_holds u over.sets.now case c.in_ok-set.set.now s
-    (lent_at over.sets.now case c.get.result c.in_ok-set.set c.get.ensures.lookup c.in_ok-set.ensures.ok_part) holds in
+    subst (λ n. IsReached (path_of p) (path_of path) over.level n) (c.len-count.ensures ∙ lanes.turns.ok.0)
+    (subst (λ (r : Path). IsReached (path_of r) (path_of path) over.level c.len-count.result) same reached))
+    (λ m s v holds member.
+    let own = own_holds u sets case c.in_ok-set.set.now s
+    (lent_at sets case c.get.result c.in_ok-set.set c.get.ensures.lookup c.in_ok-set.ensures.ok_part)
+    (subst (λ ss. IsHeldSet u ss case s) c.requires.sets holds) in
     let at = lent_at ms k c.get-in-loop-member.result c.in_ok-stored.stored c.get-in-loop-member.ensures.lookup c.in_ok-stored.ensures.ok_part in
-    let held = member_held s u ms k stored v (c.held_members-members.ensures s own) at member in (
-      subst (λ n. IsReached (path_of p) (path_of path) over.level n) (c.len-count.ensures ∙ lanes.members.ok.0)
-          (subst (λ (r : Path). IsReached (path_of r) (path_of path) over.level c.len-count.result) same reached),
-      record { known = c.held.ensures.holds m v held; holds = λ r is. subst (λ k. Holds u k v) (same_Some stored r is) held },
-    ))
+    let held = member_held s u ms k stored v (c.held_members-members.ensures s own) at member in
+    record { known = c.held.ensures.holds m v held; holds = λ r r-is. subst (λ k. Holds u k v) (same_Some stored r r-is) held })

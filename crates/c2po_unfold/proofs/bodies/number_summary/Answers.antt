@@ -6,7 +6,7 @@ use Rattle.c2po_unfold.specs.Resolving.{resolved_value}
 use Rattle.c2po_unfold.specs.Facts.{Tells}
 use Rattle.c2po_unfold.specs.Values.{integer}
 use Rattle.c2po_unfold.proofs.Knowing.{says_told}
-use Rattle.c2po_unfold.proofs.summing.number_summary.Goals as goal
+use Rattle.c2po_unfold.proofs.bodies.number_summary.Goals as goal
 
 pub returns-in-Number : goal.returns-in-Number
 returns-in-Number c = λ m env.

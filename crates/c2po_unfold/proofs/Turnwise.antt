@@ -1,0 +1,157 @@
+-- Members that cases draw.
+
+use Rattle.std.proofs.Common.{◌≡◌, ℕ, ◌+◌, ◌*◌, ◌/◌, ◌<◌, ◌≤◌, Bor, false, get_or, Some, List, [], ◌∷◌, ◌++◌, ◌⊎◌, inl, inr, length, slice_get, sym, subst, ap, ◌∙◌, arith}
+use Rattle.std.proofs.lemmas.Bool.{cases_lt}
+use Rattle.std.proofs.lemmas.List.{length-append}
+use Rattle.std.proofs.Math.Nat.{mul-le-mul_left}
+use Rattle.std.proofs.lemmas.Option.{same_Some, slice_get-get_or, slice_get_within}
+use Rattle.c2po_nodes.proofs.Places.{at_push}
+use Rattle.c2po_unfold.specs.declared.path.Path.{Path}
+use Rattle.c2po_unfold.specs.declared.path.Turn.{Turn}
+use Rattle.c2po_unfold.specs.declared.each.Each.{Each}
+use Rattle.c2po_unfold.specs.declared.known.Ahead.{Ahead}
+use Rattle.c2po_unfold.specs.declared.resolved.Quantified.{Quantified}
+use Rattle.c2po_unfold.specs.declared.resolved.Resolved.{Resolved, Truth}
+use Rattle.c2po_unfold.specs.declared.scope.Head.{Head}
+use Rattle.c2po_unfold.specs.declared.scope.Head.TheVariants as head
+use Rattle.c2po_unfold.specs.declared.scope.Member.{Member}
+use Rattle.c2po_unfold.specs.declared.scope.Draw.{Draw}
+use Rattle.c2po_unfold.specs.declared.scope.Scope.{Scope}
+use Rattle.c2po_unfold.specs.declared.unfolding.Unfolding.{Unfolding}
+use Rattle.c2po_unfold.specs.Cases.{IsDrawn, IsReached, chosen, path_of}
+use Rattle.c2po_unfold.specs.Covering.{Mode}
+use Rattle.c2po_unfold.specs.Environment.{Env}
+use Rattle.c2po_unfold.specs.Ahead.{AreLight, AreListed, HasMember, IsAheadIn, IsTold, IsTurnAhead, KnownFor}
+use Rattle.c2po_unfold.specs.Heads.{HeadsIn}
+use Rattle.c2po_unfold.specs.Resolving.{resolved_value, resolved_values}
+use Rattle.c2po_unfold.specs.Scopes.{MeetsIn, names_of}
+use Rattle.c2po_unfold.specs.Values.{Value, list_of, members}
+use Rattle.c2po_unfold.proofs.Cases.{fits_further, reached_further}
+use Rattle.c2po_unfold.proofs.Members.{resolved_at, value_at, values_count}
+use Rattle.c2po_unfold.proofs.Several.{or_last, turn_within}
+
+-- in the first turns of rounds of n cases, members follow one another from the first on
+pub record TurnsSoFar (start n l : ℕ) (turns : List Turn) : Type 0 where
+  pub count : length turns ≡ l
+  pub member : (k : ℕ) (t : Turn) → slice_get turns k ≡ Some t → t.member ≡ start + k / n
+
+pub turns_none : (start n : ℕ) (turns : List Turn) → turns ≡ [] → TurnsSoFar start n 0 turns
+turns_none start n turns none = record {
+  count = ap length none;
+  member = λ k t at. absurd (omega (arith, slice_get_within turns k t at, ap length none));
+}
+
+-- one more
+pub turns_more : (start n l : ℕ) (old new : List Turn) (t : Turn) → TurnsSoFar start n l old → new ≡ old ++ t ∷ [] → t.member ≡ start + l / n →
+    TurnsSoFar start n (l + 1) new
+turns_more start n l old new t h longer next = record {
+  count = ap length longer ∙ (length-append old (t ∷ []) ∙ ap (λ k. k + 1) h.count);
+  member = λ k r at. by k r (at_push old t k r (subst (λ xs. slice_get xs k ≡ Some r) longer at));
+}
+  where
+    by : (k : ℕ) (r : Turn) → ((k < length old) × (slice_get old k ≡ Some r)) ⊎ ((k ≡ length old) × (t ≡ r)) → r.member ≡ start + k / n
+    by k r (inl earlier) = h.member k r earlier.1
+    by k r (inr last) =
+        let place : k ≡ l = last.0 ∙ h.count in
+        subst (λ (q : Turn). q.member ≡ start + k / n) last.1 (subst (λ i. t.member ≡ start + i / n) (sym place) next)
+
+-- the value that an expression has in a case
+abbrev pub OfCase : Unfolding → Scope → List Path → Resolved → Mode → ℕ → Value → Type 0
+OfCase u scope paths e m i v =
+    (base : Env) × (env : Env) × (p : Path) × (slice_get paths i ≡ Some p) × MeetsIn (chosen m (path_of p)) u base scope env e
+    × (v ≡ resolved_value e env)
+
+-- what holds of an expression in a case holds of it where the path has a number more
+pub meets_further : (m : Mode) (old new : List ℕ) (level number : ℕ) (u : Unfolding) (base : Env) (scope : Scope) (env : Env) (e : Resolved) →
+    IsReached old new level number → MeetsIn (chosen m old) u base scope env e → MeetsIn (chosen m new) u base scope env e
+meets_further m old new level number u base scope env e reached h = record {
+  fits = fits_further (chosen m old) (chosen m new) base u scope env (reached_further m old new level number u reached) h.fits;
+  resolved = h.resolved;
+}
+
+-- the first paths have this number at a level
+pub record HaveNumber (paths : List Path) (level number i : ℕ) : Type 0 where
+  pub each : (j : ℕ) (p : Path) → j < i → slice_get paths j ≡ Some p → slice_get (path_of p) level ≡ Some number
+
+pub number_none : (paths : List Path) (level number : ℕ) → HaveNumber paths level number 0
+number_none paths level number = record { each = λ j p inside. absurd (omega (arith, inside)) }
+
+pub number_more : (paths : List Path) (level number i : ℕ) (own : Path) → HaveNumber paths level number i → slice_get paths i ≡ Some own →
+    slice_get (path_of own) level ≡ Some number → HaveNumber paths level number (i + 1)
+number_more paths level number i own h at here = record { each = λ j p inside there. by j p there (or_last j i inside) }
+  where
+    by : (j : ℕ) (p : Path) → slice_get paths j ≡ Some p → (j < i) ⊎ (j ≡ i) → slice_get (path_of p) level ≡ Some number
+    by j p there (inl inside) = h.each j p inside there
+    by j p there (inr last) =
+        let same : own ≡ p = same_Some own p (sym at ∙ subst (λ k. slice_get paths k ≡ Some p) last there) in
+        subst (λ (r : Path). slice_get (path_of r) level ≡ Some number) same here
+
+-- the first cases draw the member with this number
+pub record DrawMember (paths : List Path) (draw : Draw) (member i : ℕ) : Type 0 where
+  pub each : (m : Mode) (j : ℕ) (p : Path) (s v : Value) → j < i → slice_get paths j ≡ Some p → IsDrawn (chosen m (path_of p)) draw s v →
+      slice_get (members s) member ≡ Some v
+
+pub draw_none : (paths : List Path) (draw : Draw) (member : ℕ) → DrawMember paths draw member 0
+draw_none paths draw member = record { each = λ m j p s v inside. absurd (omega (arith, inside)) }
+
+pub draw_more : (paths : List Path) (draw : Draw) (member i : ℕ) (own : Path) → DrawMember paths draw member i → slice_get paths i ≡ Some own →
+    ((m : Mode) (s v : Value) → IsDrawn (chosen m (path_of own)) draw s v → slice_get (members s) member ≡ Some v) → DrawMember paths draw member (i + 1)
+draw_more paths draw member i own h at here = record { each = λ m j p s v inside there drawn. by m j p s v there drawn (or_last j i inside) }
+  where
+    by : (m : Mode) (j : ℕ) (p : Path) (s v : Value) → slice_get paths j ≡ Some p → IsDrawn (chosen m (path_of p)) draw s v → (j < i) ⊎ (j ≡ i) →
+        slice_get (members s) member ≡ Some v
+    by m j p s v there drawn (inl inside) = h.each m j p s v inside there drawn
+    by m j p s v there drawn (inr last) =
+        let same : p ≡ own = same_Some p own (sym (subst (λ k. slice_get paths k ≡ Some p) last there) ∙ at) in
+        here m s v (subst (λ (r : Path). IsDrawn (chosen m (path_of r)) draw s v) same drawn)
+
+-- what is known for a path is so in the case that has it
+pub told_here : (m : Mode) (u : Unfolding) (scope : Scope) (e : Resolved) (paths told : List Path) (each : Each) (i k : ℕ) (own : Path) (v : Value) →
+    IsTold u scope e told each → OfCase u scope paths e m i v → slice_get paths i ≡ Some own → slice_get told k ≡ Some own → KnownFor m each k v
+told_here m u scope e paths told each i k own v h of here at =
+    let same : own ≡ of.2 = same_Some own of.2 (sym here ∙ of.3) in
+    subst (KnownFor m each k) (sym of.5) (h.holds m of.0 of.1 k of.2 (subst (λ (p : Path). slice_get told k ≡ Some p) same at) of.4)
+
+-- a number in rounds says that its round is one of them
+within_round : (n i j k : ℕ) → i + n * j < n * k → j < k
+within_round n i j k h = elim (cases_lt j k) [
+  | inl less ↦ less
+  | inr more ↦ absurd (omega (arith, h, mul-le-mul_left n more))
+]
+
+-- what is known of some expressions of a set is so of them as its members
+pub some_light : (u : Unfolding) (scope : Scope) (paths : List Path) (es some : List Resolved) (start : ℕ) (all : List Member) →
+    AreListed u scope paths some (length some) all → ((j : ℕ) (e : Resolved) → slice_get some j ≡ Some e → slice_get es (start + j) ≡ Some e) →
+    AreLight u scope paths es start all
+some_light u scope paths es some start all listed grouped = record {
+  each = λ m base env i j p e inside within at h.
+      let n = length paths in
+      let round : j < length some = within_round n i j (length some) (subst (λ k. i + n * j < k) listed.count within) in
+      let own = get_or some j (Truth false) in
+      let here : slice_get some j ≡ Some own = slice_get-get_or some j (Truth false) round in
+      let same : own ≡ e = same_Some own e (sym (grouped j own here) ∙ at) in
+      subst (λ d. HasMember m u all (i + n * j) (resolved_value d env)) same
+      (listed.each m base env i j p own inside round here (subst (MeetsIn (chosen m (path_of p)) u base scope env) (sym same) h));
+}
+
+-- so bodies for such members are those for the members of the set
+pub light_ahead : (u : Unfolding) (scope : Scope) (q : Quantified) (set : Head) (paths : List Path) (turns : List Member) (ahead : Ahead)
+    (within : Bor Scope) (e : Bor Resolved) (es : Bor (List Resolved)) (start : ℕ) → set ≡ head.Set within e es →
+    AreLight u within.now paths es.now start turns → IsTurnAhead u scope q paths turns ahead → ahead.start ≡ start →
+    length paths * ahead.count ≤ length turns → IsAheadIn u scope q set paths ahead
+light_ahead u scope q set paths turns ahead within e es start is light turn begins room = record {
+  holds = λ m base env i j p s v inside h heads count at.
+      let n = length paths in
+      let g = subst (λ d. HeadsIn (chosen m (path_of p)) u base d s) is heads in
+      let all = list_of (resolved_values es.now g.0) in
+      let there : slice_get all (start + j) ≡ Some v =
+      subst (λ k. slice_get all (k + j) ≡ Some v) begins (subst (λ x. slice_get (members x) (ahead.start + j) ≡ Some v) g.5 at) in
+      let own = get_or es.now (start + j) (Truth false) in
+      let found : slice_get es.now (start + j) ≡ Some own =
+      slice_get-get_or es.now (start + j) (Truth false) (omega (arith, slice_get_within all (start + j) v there, values_count es.now g.0)) in
+      let same : resolved_value own g.0 ≡ v = same_Some (resolved_value own g.0) v (sym (value_at es.now g.0 (start + j) own found) ∙ there) in
+      let names = resolved_at es.now u base (names_of within.now) (start + j) own g.4 found in
+      let number : i + n * j < length turns = omega (arith, turn_within i n j ahead.count (slice_get_within paths i p inside) count, room) in
+      let has = light.each m base g.0 i j p own inside number found (record { fits = g.1; resolved = names }) in
+      turn.holds m base env i j p v inside h count (subst (HasMember m u turns (i + n * j)) same has);
+}

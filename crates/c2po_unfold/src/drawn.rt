@@ -1,0 +1,327 @@
+//! Variables that are members of sets that are written out, in several cases at once.
+//!
+//! A member that is a struct's value or a set is listed nowhere: each case draws one, and an expression over the variable is
+//! looked at once for all cases that draw the same members.
+
+ghost use Rattle.std.specs.Prelude.{◌≡◌, ◌+◌, ◌*◌, ◌<◌, ◌/◌, ℕ, ◌++◌, ◌∷◌, [], Some, IfOk, IfSome, length, slice_get};
+ghost use Rattle.c2po_unfold.specs.declared.path.Path.{Path as CasePath};
+ghost use Rattle.c2po_unfold.specs.declared.path.Turn.{Turn as CaseTurn};
+ghost use Rattle.c2po_unfold.specs.Ahead.{IsDrawnAhead, IsTold, KnownFor};
+ghost use Rattle.c2po_unfold.specs.Bodies.{MeetsBodyIn};
+ghost use Rattle.c2po_unfold.specs.Cases.{IsDrawn, chosen, path_of};
+ghost use Rattle.c2po_unfold.specs.Covering.{Mode};
+ghost use Rattle.c2po_unfold.specs.Environment.{Env};
+ghost use Rattle.c2po_unfold.specs.Heads.{HeadsIn};
+ghost use Rattle.c2po_unfold.specs.Resolving.{IsResolved, bodies_of, resolved_body, resolved_value};
+ghost use Rattle.c2po_unfold.specs.Scopes.{FitsIn, MeetsIn, names_of};
+ghost use Rattle.c2po_unfold.specs.Summaries.{IsSummary};
+ghost use Rattle.c2po_unfold.specs.Values.{Value, connected_all, counted};
+
+use crate::Unfolding;
+use crate::drawing::Shared;
+use crate::each::{Each, Stop, add};
+use crate::fault::deeper;
+use crate::known::Ahead;
+use crate::lanes::Sets;
+use crate::path::{Cases, Path, Turn};
+use crate::resolved::{Quantified, Resolved};
+use crate::room::Room;
+use crate::scope::{Draw, Head, Scope, Site};
+use crate::summary::Summary;
+use crate::together::group;
+use mltl_base::{CountOp, LogicOp};
+use std::alloc::Global;
+
+/// The members that cases draw in rounds: from member `start` on, each in as many cases as there are.
+fn turns(alloc: Global, start: usize, members: usize, count: usize) -> Result<Vec<Turn>, Stop>
+    requires { 0 < count }
+    ensures { (i j : ℕ) (t : CaseTurn) → i < count → IfOk result
+        (λ r. slice_get r.items (i + count * j) ≡ Some t → t.member ≡ start + j) }
+{
+    let all = count.checked_mul(members).ok_or(Stop::Alone)?;
+    let mut turns = Vec::with_capacity(alloc, all)?;
+    for i in 0..all {
+        let turn = Turn {
+            case: i % count,
+            member: start.checked_add(i / count).ok_or(Stop::Alone)?,
+        };
+        add(&mut turns, turn)?;
+    }
+    Ok(turns)
+}
+
+/// What is known of an expression in the cases of these paths.
+#[derive(Clone, Copy)]
+pub(crate) struct Told<'a> {
+    paths: &'a [Path],
+    each: &'a Each,
+}
+
+impl<'a> Told<'a> {
+    /// What is known in the case with a number, if it has this path.
+    #[inline(always)]
+    fn at(self, i: usize, path: &Path) -> Option<&'a Summary>
+        ensures { (m : Mode) (v : Value)
+            → ((k : ℕ) → slice_get self.entry.paths.now k ≡ Some path.now
+            → KnownFor m self.entry.each.now k v) → IfSome result (λ s. IsSummary m s.now v) }
+    {
+        if self.paths.get(i)?.is(path) {
+            self.each.get(i)
+        } else {
+            None
+        }
+    }
+}
+
+impl Unfolding {
+    /// What is known in each case of an expression that leads to another value from case to case.
+    #[cycle(each)]
+    pub(crate) fn each_led(
+        &self,
+        at: Site<'_>,
+        cases: Cases<'_>,
+        e: &Resolved,
+        room: Room,
+    ) -> Result<Each, Stop>
+        ensures { (m : Mode) (base env : Env) (i : ℕ) (p : CasePath)
+            → slice_get cases.entry.paths.now i ≡ Some p
+            → MeetsIn (chosen m (path_of p)) self.now base at.entry.scope.now env e.now
+            → IfOk result (λ r. KnownFor m r i (resolved_value e.now env)) }
+    {
+        match self.each_traced(at, cases, e) {
+            Err(Stop::Alone) => self.each_drawn(at, cases, e, room),
+            traced => traced,
+        }
+    }
+
+    /// The same, by what it leads to in those cases that draw the same members.
+    #[cycle(each)]
+    fn each_drawn(
+        &self,
+        at: Site<'_>,
+        cases: Cases<'_>,
+        e: &Resolved,
+        room: Room,
+    ) -> Result<Each, Stop>
+        ensures { (m : Mode) (base env : Env) (i : ℕ) (p : CasePath)
+            → slice_get cases.entry.paths.now i ≡ Some p
+            → MeetsIn (chosen m (path_of p)) self.now base at.entry.scope.now env e.now
+            → IfOk result (λ r. KnownFor m r i (resolved_value e.now env)) }
+    {
+        match self.head_in(at.depth, cases.paths, at.scope, e)? {
+            Shared::Head(head) => self.each_shared(at, cases, head, room),
+            Shared::Apart(draw) => self.each_parted(at, cases, e, draw, room),
+        }
+    }
+
+    /// What is known in each case of what an expression leads to in all of them.
+    #[cycle(each)]
+    fn each_shared(
+        &self,
+        at: Site<'_>,
+        cases: Cases<'_>,
+        head: Head<'_>,
+        room: Room,
+    ) -> Result<Each, Stop>
+        ensures { (m : Mode) (base : Env) (i : ℕ) (p : CasePath) (v : Value)
+            → slice_get cases.entry.paths.now i ≡ Some p
+            → HeadsIn (chosen m (path_of p)) self.now base head.entry v
+            → IfOk result (λ r. KnownFor m r i v) }
+    {
+        match head {
+            Head::Held(stored) => Ok(Each::Same(self.held(stored))),
+            Head::Covered(summary) => Ok(Each::Same(*summary)),
+            Head::Varied(choice) => self.each_member(choice, cases),
+            Head::Leaf(scope, e) => self.each(Site { scope, ..at }, cases, e, room),
+            Head::Nothing(..) | Head::Struct(..) | Head::Set(..) => Err(Stop::Alone),
+        }
+    }
+
+    /// What is known in each case of an expression, by those cases that draw what the first one does, and by all others.
+    #[cycle(each)]
+    fn each_parted(
+        &self,
+        at: Site<'_>,
+        cases: Cases<'_>,
+        e: &Resolved,
+        draw: Draw<'_>,
+        room: Room,
+    ) -> Result<Each, Stop>
+        ensures { (m : Mode) (base env : Env) (i : ℕ) (p : CasePath)
+            → slice_get cases.entry.paths.now i ≡ Some p
+            → MeetsIn (chosen m (path_of p)) self.now base at.entry.scope.now env e.now
+            → IfOk result (λ r. KnownFor m r i (resolved_value e.now env)) }
+    {
+        let at = Site {
+            depth: deeper(at.depth)?,
+            ..at
+        };
+        let like = cases.parted(self.alloc, draw, true)?;
+        let others = cases.parted(self.alloc, draw, false)?;
+        if others.is_empty() {
+            return Err(Stop::Alone);
+        }
+        let some = self.each_drawn(at, cases.along(like.as_slice()), e, room)?;
+        let rest = self.each_drawn(at, cases.along(others.as_slice()), e, room)?;
+        let like = Told {
+            paths: like.as_slice(),
+            each: &some,
+        };
+        let others = Told {
+            paths: others.as_slice(),
+            each: &rest,
+        };
+        self.merged(at.scope, cases, e, like, others)
+    }
+
+    /// What is known of an expression in each case by what is known of it in those of two lists of paths, in which the cases follow
+    /// one another.
+    fn merged(
+        &self,
+        scope: &Scope<'_>,
+        cases: Cases<'_>,
+        e: &Resolved,
+        like: Told<'_>,
+        others: Told<'_>,
+    ) -> Result<Each, Stop>
+        requires like { IsTold self.now scope.now e.now like.paths.now like.each.now }
+        requires others { IsTold self.now scope.now e.now others.paths.now others.each.now }
+        ensures { (m : Mode) (base env : Env) (i : ℕ) (p : CasePath)
+            → slice_get cases.entry.paths.now i ≡ Some p
+            → MeetsIn (chosen m (path_of p)) self.now base scope.now env e.now
+            → IfOk result (λ r. KnownFor m r i (resolved_value e.now env)) }
+    {
+        let mut all = Vec::with_capacity(self.alloc, cases.len())?;
+        let (mut i, mut j) = (0_usize, 0_usize);
+        for path in cases.paths {
+            if let Some(found) = like.at(i, path) {
+                i = i.saturating_add(1);
+                add(&mut all, *found)?;
+            } else {
+                let found = others.at(j, path).ok_or(Stop::Alone)?;
+                j = j.saturating_add(1);
+                add(&mut all, *found)?;
+            }
+        }
+        Ok(Each::Own(all))
+    }
+
+    /// What is known in each case of the bodies of a quantifier from member `i` of a set that is written out on, together.
+    #[cycle(each)]
+    pub(crate) fn drawn_bodies(
+        &self,
+        at: Site<'_>,
+        cases: Cases<'_>,
+        bodies: Quantified<'_>,
+        within: &Scope<'_>,
+        set: &Resolved,
+        members: &[Resolved],
+        i: usize,
+        room: Room,
+    ) -> Result<Ahead, Stop>
+        ensures ahead { IfOk result (IsDrawnAhead self.now at.entry.scope.now within.now
+            bodies.entry set.now cases.entry.paths.now) }
+        ensures start { IfOk result (λ r. r.start ≡ i) }
+        ensures some { IfOk result (λ r. 0 < r.count) }
+    {
+        let n = cases.len();
+        let count = group(members, i, n).ok_or(Stop::Alone)?.len();
+        if count == 0 || n == 0 {
+            return Err(Stop::Alone);
+        }
+        let level = cases.level();
+        let paths = cases.rounds(self.alloc, level, count)?;
+        let turns = turns(self.alloc, i, count, n)?;
+        let draw = Draw {
+            turns: turns.as_slice(),
+            level,
+        };
+        let rounds = cases.along(paths.as_slice());
+        let each = self.drawn_body(at, rounds, bodies, within, set, draw, room)?;
+        Ok(Ahead {
+            start: i,
+            count,
+            each,
+        })
+    }
+
+    /// What is known in each case of the body of a quantifier where its variable is the member of a set that the case draws.
+    #[cycle(each)]
+    pub(crate) fn drawn_body(
+        &self,
+        at: Site<'_>,
+        cases: Cases<'_>,
+        bodies: Quantified<'_>,
+        within: &Scope<'_>,
+        set: &Resolved,
+        draw: Draw<'_>,
+        room: Room,
+    ) -> Result<Each, Stop>
+        ensures { (m : Mode) (base inner env : Env) (i : ℕ) (p : CasePath) (v : Value)
+            → slice_get cases.entry.paths.now i ≡ Some p
+            → MeetsBodyIn (chosen m (path_of p)) self.now base at.entry.scope.now env bodies.entry
+            → MeetsIn (chosen m (path_of p)) self.now base within.now inner set.now
+            → IsDrawn (chosen m (path_of p)) draw.entry (resolved_value set.now inner) v
+            → IfOk result (λ r. KnownFor m r i (resolved_body bodies.entry env v)) }
+    {
+        let scope = &Scope::Drawn {
+            name: &*bodies.name,
+            set: &*set,
+            within: &*within,
+            draw,
+            outer: &*at.scope,
+        };
+        self.each(Site { scope, ..at }, cases, bodies.body, room)
+    }
+
+    /// What is known in each case of the bodies of a quantifier, joined by an operator, over a set that leads to another one from
+    /// case to case.
+    #[cycle(each)]
+    pub(crate) fn joined_apart(
+        &self,
+        at: Site<'_>,
+        cases: Cases<'_>,
+        op: LogicOp,
+        bodies: Quantified<'_>,
+        room: Room,
+    ) -> Result<Each, Stop>
+        ensures { (m : Mode) (base env : Env) (i : ℕ) (p : CasePath)
+            → slice_get cases.entry.paths.now i ≡ Some p
+            → MeetsIn (chosen m (path_of p)) self.now base at.entry.scope.now env bodies.entry.set.now
+            → MeetsBodyIn (chosen m (path_of p)) self.now base at.entry.scope.now env bodies.entry
+            → IfOk result (λ r. KnownFor m r i (connected_all op (bodies_of bodies.entry env))) }
+    {
+        match self.traced(at, cases, bodies.set) {
+            Ok(sets) => self.joined_sets(at, cases, op, bodies, sets.as_slice(), room),
+            Err(Stop::Alone) => self.joined_over(at, cases, op, bodies, Sets::Led, room),
+            Err(Stop::Memory) => Err(Stop::Memory),
+        }
+    }
+
+    /// What is known in each case of a counting quantifier over a set that leads to another one from case to case.
+    #[cycle(each)]
+    pub(crate) fn counted_apart(
+        &self,
+        at: Site<'_>,
+        cases: Cases<'_>,
+        op: CountOp,
+        number: u64,
+        bodies: Quantified<'_>,
+        room: Room,
+    ) -> Result<Each, Stop>
+        ensures { (m : Mode) (base env : Env) (i : ℕ) (p : CasePath)
+            → slice_get cases.entry.paths.now i ≡ Some p
+            → MeetsIn (chosen m (path_of p)) self.now base at.entry.scope.now env bodies.entry.set.now
+            → MeetsBodyIn (chosen m (path_of p)) self.now base at.entry.scope.now env bodies.entry
+            → IfOk result (λ r. KnownFor m r i (counted op number (bodies_of bodies.entry env))) }
+    {
+        match self.traced(at, cases, bodies.set) {
+            Ok(sets) => {
+                let sets = Sets::Held(sets.as_slice());
+                self.counted_over(at, cases, op, number, bodies, sets, room)
+            }
+            Err(Stop::Alone) => self.counted_over(at, cases, op, number, bodies, Sets::Led, room),
+            Err(Stop::Memory) => Err(Stop::Memory),
+        }
+    }
+}
