@@ -9,12 +9,14 @@ A text has definitions over sets of members, which are numbers, signals or value
 or over each set of a set of sets, with others within it, and then with quantifiers over one member each, over a body that
 compares numbers, divides by them, picks fields, adds and denies. It can be within quantifiers over structs whose fields are
 sets of numbers, some small and some large, and over such fields. All of these can be within quantifiers over sets that the
-definition writes out: sets of structs with a number, which may be that of the variable before, or sets of sets of one number,
-which may be that of the outermost variable, and which a further quantifier goes over. It weighs at most 65,536, and no divisor
-is 0, so that the text is legal. Some are outputs, as many as the limit of their weights lets be. The search begins with the
-heaviest of some shapes at random, changes one number of a shape at a time, with fewer members where the text would weigh too
-much, and goes on with what takes more. Each text that takes more than all before is printed: its seconds of user time, the peak
-of memory in MB, the code of the run, and its shape. A run ends after --seconds of user time. Code 8 is out of memory.
+definition writes out: sets of structs with a number, which may be that of the variable before, of names of such structs, of that
+variable itself, or sets of sets of one number, which may be that of the outermost variable, and which a further quantifier goes
+over. Quantifiers over one member each may go over the outermost of these sets. A body may have quantifiers over two formulas, of
+which the first is such a quantifier. It weighs at most 65,536, and no divisor is 0, so that the text is legal. Some are outputs, as
+many as the limit of their weights lets be. The search begins with the heaviest of some shapes at random, changes one number of a
+shape at a time, with fewer members where the text would weigh too much, and goes on with what takes more. Each text that takes
+more than all before is printed: its seconds of user time, the peak of memory in MB, the code of the run, and its shape. A run ends
+after --seconds of user time. Code 8 is out of memory.
 
 The status is 0, and 1 where a run ended otherwise than with code 0: each text is legal.
 """
@@ -37,12 +39,13 @@ COUNTING = ('foratmost', 'foratleast', 'forexactly')
 # What bodies do with the variables that are numbers: compare them, or divide by each, by a sum or by a difference. Of sums and
 # differences none is 0, but the range of all of them has it.
 AS_THEY_ARE, BY_EACH, BY_SUM, BY_DIFFERENCE = range(4)
-# The one member of a set that is quantified over: the variable before, the value of a struct that holds it, a stored value, or
-# the outermost variable.
-OF_VARIABLE, OF_STRUCT, OF_STORED, OF_OUTERMOST = range(4)
+# The one member of a set that is quantified over: the variable before, the value of a struct that holds it, a stored value, the
+# outermost variable, or that of the outermost set that is written out, if that is a set of sets.
+OF_VARIABLE, OF_STRUCT, OF_STORED, OF_OUTERMOST, OF_SET = range(5)
 # The members of a set that is written out: structs with a number, the same where the first one has that of the variable before,
-# sets of one number, or sets of that of the outermost variable.
-CLOSED, OPEN, OF_SETS, OF_ONE = range(4)
+# sets of one number, sets of that of the outermost variable, structs that all have that of the variable before, names of structs,
+# or the variable before itself.
+CLOSED, OPEN, OF_SETS, OF_ONE, OF_BEFORE, NAMED, BEFORE = range(7)
 # What is before each second member that is a signal.
 MIXED = ('', '!', 'F[0,1] ')
 
@@ -62,7 +65,7 @@ class Shape:
     grouped: int = 0        # the outermost ones go over each set of a set of sets
     groups: int = 2         # sets in each of these
     singles: int = 0        # quantifiers over one member each, within all others
-    single_kind: int = 0    # that member: the variable before, a struct with it, a stored value, the outermost variable
+    single_kind: int = 0    # that member: the variable before, a struct with it, a stored value, the outermost one, one of a set
     single_counted: int = 0 # the innermost ones of these count
     single_least: int = 0   # at least so many
     ragged: int = 0         # quantifiers over structs whose fields are sets of numbers, outside those over members
@@ -75,8 +78,10 @@ class Shape:
     set_counted: int = 0    # the innermost one of these counts
     late: int = 0           # they are within all others but those over one member each, else outside them
     written: int = 0        # quantifiers over sets of numbers that are written out, outside all others
-    written_kind: int = 0   # their members: structs, one of them of the variable before, sets, all of them of the outermost one
+    written_kind: int = 0   # their members: structs, sets, names, or the variable before
     written_members: int = 2 # how many of these each set has
+    inner: int = 0          # quantifiers in the body over two formulas, the first of which is the quantifier within
+    inner_denials: int = 0  # `!` before the innermost of these formulas
     division: int = 0       # what bodies do with numbers: compare them, divide by each, by a sum, by a difference
     fields: int = 2         # of each struct
     depth: int = 1          # structs within one another, which the body picks through
@@ -91,13 +96,14 @@ class Shape:
 LEAST = {'members': 1, 'distinct': 1, 'mixed': 0, 'sets': 1, 'nesting': 1, 'numeric': 0, 'counted': 0, 'counting': 0,
          'threshold': 0, 'grouped': 0, 'groups': 1, 'singles': 0, 'single_kind': 0, 'single_counted': 0, 'single_least': 0,
          'ragged': 0, 'structs': 1, 'set_fields': 1, 'small': 1, 'large': 1, 'every': 1, 'set_levels': 1, 'set_counted': 0,
-         'late': 0, 'written': 0, 'written_kind': 0, 'written_members': 1, 'division': 0, 'fields': 1, 'depth': 0, 'uses': 1,
-         'sums': 0, 'denials': 0, 'labels': 1, 'linked': 0, 'outputs': 0}
+         'late': 0, 'written': 0, 'written_kind': 0, 'written_members': 1, 'inner': 0, 'inner_denials': 0, 'division': 0,
+         'fields': 1, 'depth': 0, 'uses': 1, 'sums': 0, 'denials': 0, 'labels': 1, 'linked': 0, 'outputs': 0}
 MOST = {'members': 400, 'distinct': 400, 'mixed': 2, 'sets': 100, 'nesting': 40, 'numeric': 40, 'counted': 40, 'counting': 2,
-        'threshold': 200, 'grouped': 40, 'groups': 40, 'singles': 80, 'single_kind': 3, 'single_counted': 80, 'single_least': 2,
+        'threshold': 200, 'grouped': 40, 'groups': 40, 'singles': 80, 'single_kind': 4, 'single_counted': 80, 'single_least': 2,
         'ragged': 3, 'structs': 256, 'set_fields': 64, 'small': 12, 'large': 64, 'every': 300, 'set_levels': 60,
-        'set_counted': 1, 'late': 1, 'written': 16, 'written_kind': 3, 'written_members': 4, 'division': 3, 'fields': 100,
-        'depth': 400, 'uses': 40, 'sums': 60, 'denials': 60, 'labels': 60, 'linked': 50, 'outputs': 60_000}
+        'set_counted': 1, 'late': 1, 'written': 16, 'written_kind': 6, 'written_members': 64, 'inner': 40, 'inner_denials': 20,
+        'division': 3, 'fields': 100, 'depth': 400, 'uses': 40, 'sums': 60, 'denials': 60, 'labels': 60, 'linked': 50,
+        'outputs': 60_000}
 
 
 def numbered_levels(shape):
@@ -134,10 +140,16 @@ def left_weight(shape):
     return 7 if count > 1 else 5
 
 
+def inner_weight(shape):
+    """The weight of the quantifiers over two formulas in the body."""
+    return (shape.inner_denials + 1 + 2 * shape.inner) * bool(shape.inner)
+
+
 def body_weight(shape):
-    """The weight of one body: denials, a comparison of a sum, the uses of a variable, and what joins these."""
-    parts = compares(shape) + uses(shape)
-    return shape.denials + (left_weight(shape) + 2 * shape.sums + 2) * compares(shape) + uses(shape) + parts - 1
+    """The weight of one body: denials, a comparison of a sum, the uses of a variable, quantifiers, and what joins these."""
+    parts = compares(shape) + uses(shape) + bool(shape.inner)
+    comparison = (left_weight(shape) + 2 * shape.sums + 2) * compares(shape)
+    return shape.denials + comparison + uses(shape) + inner_weight(shape) + parts - 1
 
 
 def counted_weight(members, threshold, inner):
@@ -232,7 +244,8 @@ def tokens(shape):
     written = (5 * shape.written_members + 16) * shape.written
     divided = 6 * count_of_numbers(shape) + 10 if shape.division else 0
     body = divided + uses(shape) * (2 * shape.depth + 4) + 2 * shape.sums + shape.denials + 20
-    return 12 * levels + 18 * shape.singles + written + body
+    within = 13 * shape.inner + shape.inner_denials
+    return 12 * levels + 18 * shape.singles + written + within + body
 
 
 def struct_tokens(shape):
@@ -335,6 +348,8 @@ def head(shape):
         pieces.append(sets_of(shape, 'n', numerals, numerals))
     if shape.written:
         pieces.append('STRUCT cell: { a: int; };\n')
+        pieces += ['DEFINE m%d := cell(%s);\nDEFINE k%d := {p};\n' % (k, numeral(k % shape.distinct), k)
+                   for k in range(shape.written_members)]
     if shape.ragged:
         pieces.append(ragged_structs(shape))
     pieces.append('STRUCT box: { a: %s; };\n' % kind_of_last(shape))
@@ -360,7 +375,7 @@ def variable(shape, level):
 
 def last(shape):
     """What the innermost variable stands for: a member, as it is or through quantifiers over one member each."""
-    if not shape.singles or shape.single_kind == OF_OUTERMOST:
+    if not shape.singles or shape.single_kind in (OF_OUTERMOST, OF_SET):
         return variable(shape, shape.nesting - 1)
     return single_variable(shape, shape.singles - 1) + '.a' * (shape.single_kind == OF_STRUCT)
 
@@ -419,10 +434,20 @@ def compared(shape):
     return 'x / (%s)%s > 0' % (divisor, added)
 
 
+def inner_members(shape):
+    """Quantifiers over two formulas, the first of which is the quantifier within."""
+    text = '!' * shape.inner_denials + 'p'
+    for level in range(shape.inner):
+        text = 'foreach(i%d: {%s, p})(i%d)' % (level, text, level)
+    return text
+
+
 def body(shape):
     parts = [last(shape) + '.f0' * shape.depth] * uses(shape)
     if compares(shape):
         parts.append(compared(shape))
+    if shape.inner:
+        parts.append(inner_members(shape))
     return '!' * shape.denials + '(%s)' % ' || '.join(parts)
 
 
@@ -438,7 +463,9 @@ def singled(shape, text):
             members = '{box(%s%s)}' % (before, '.a' if level else '')
         elif shape.single_kind == OF_VARIABLE:
             members = '{%s}' % before
-        elif shape.single_kind == OF_OUTERMOST:
+        elif shape.single_kind == OF_SET and shape.written and of_sets(shape):
+            members = 'h' + written_variable(shape, 0)
+        elif shape.single_kind in (OF_OUTERMOST, OF_SET):
             members = '{%s}' % (written_variable(shape, 0) if shape.written else variable(shape, 0))
         else:
             members = 'one_' + letter_of(shape, shape.nesting - 1)
@@ -484,8 +511,14 @@ def over_members(shape, number, text):
 def written_members(shape, level):
     """The members of a set that is written out."""
     values = [str(numeral((level + k) % shape.distinct)) for k in range(shape.written_members)]
+    if shape.written_kind == NAMED or shape.written_kind == BEFORE and not level:
+        return ', '.join('m%d' % k for k in range(shape.written_members))
+    if shape.written_kind == BEFORE:
+        return ', '.join([written_variable(shape, level - 1)] * shape.written_members)
     if shape.written_kind == OPEN and level:
         values[0] = written_number(shape, level - 1)
+    if shape.written_kind == OF_BEFORE and level:
+        values = [written_number(shape, level - 1)] * shape.written_members
     if shape.written_kind == OF_ONE and level:
         values = [written_number(shape, 0)] * shape.written_members
     return ', '.join(('{%s}' if of_sets(shape) else 'cell(%s)') % value for value in values)

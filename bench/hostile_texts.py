@@ -243,11 +243,70 @@ def open_sets(first, others, names, form):
     return 'B#:=%s%s%s;\n' % (head, form.format(names[0].upper(), names[-1].upper()), '))' * len(names))
 
 
-def passed_literals(sets):
-    """One definition of 15 quantifiers over two structs that are written out, around one over each of these sets."""
-    head = ''.join('foreach(%s:{t(p),t(q)})(' % name for name in 'abcdefghijklmno')
-    head += ''.join('foreach(v%d:%s)(' % pair for pair in enumerate(sets))
-    return '%sSTRUCT t: { a: bool; };\nDEFINE r:={t(p)};\nB:=%sa.a%s;\nFTSPEC p;\n' % (SIGNALS, head, ')' * (15 + len(sets)))
+def variables(count):
+    """So many names of variables: no operator, and nothing that a head declares."""
+    letters = 'abcdefghijklmnouvwyzABCDEIJKLMNPQTVWXYZ'
+    return [*letters, *(first + second for first in letters for second in 'abcd')][:count]
+
+
+def passing(sets, body, others=0):
+    """A body within quantifiers over these sets within one another, named after so many others; @ is the innermost variable."""
+    names = variables(others + len(sets))[others:]
+    head = ''.join('foreach(%s:%s)(' % pair for pair in zip(names, sets))
+    return head + body.replace('@', names[-1]) + ')' * len(sets)
+
+
+def over(sets, body):
+    """A definition of quantifiers over these sets within one another; @ is the innermost variable."""
+    return 'd#:=%s;\n' % passing(sets, body)
+
+
+def chained_over(first, form, count):
+    """A set, and after it so many of one form, in which @ is the variable before."""
+    return [first] + [form.replace('@', name) for name in variables(count)]
+
+
+def nested_members(levels):
+    """A definition of quantifiers over two formulas, the first of which is such a quantifier, so many within one another."""
+    member = '||'.join(['p'] * 9)
+    for name in variables(levels):
+        member = 'foreach(%s:{%s,q})(%s)' % (name, member, name)
+    return 'd#:=%s;\n' % member
+
+
+def parted(levels, singles):
+    """A definition over two structs with a set of one and over two structs of which one has a quantifier over it, in turn."""
+    names = variables(3 * levels + 1 + singles)
+    head, last = 'foreach(%s:{t(p),t(q)})(' % names[0], names[0]
+    for k in range(1, 3 * levels, 3):
+        whole, own, inner = names[k:k + 3]
+        member = 't(foreach(%s:%s.f)(%s.a))' % (inner, whole, last)
+        head += 'foreach(%s:{u0({p}),u0({q})})(foreach(%s:{%s,t(%s.a)})(' % (whole, own, member, last)
+        last = own
+    head += ''.join('foreach(%s:s)(' % name for name in names[3 * levels + 1:])
+    return 'd#:=%s%s.a%s;\n' % (head, last, ')' * (2 * levels + 1 + singles))
+
+
+def parts_in_sets(levels):
+    """A definition of quantifiers over two structs whose sets of one each hold a quantifier over that of the variable before."""
+    names = variables(2 * levels + 1)
+    sets = ['{t({p}),t({q})}']
+    for before, inner in zip(names, names[levels:]):
+        sets.append('{%s}' % ','.join(['t({foreach(%s:%s.f)(%s)})' % (inner, before, inner)] * 2))
+    return 'd#:=%s;\n' % passing(sets[:levels] + ['%s.f' % names[levels - 1]], '@')
+
+
+def apart(count, form):
+    """Values that are stored each for itself, though they are the same."""
+    return ''.join('e%d:=%s;\nc%d:={p};\n' % (k, form, k) for k in range(count))
+
+
+PICKED = SIGNALS + 'STRUCT t: { a: bool; };\nDEFINE r:={t(p)};\n'
+OF_SETS = SIGNALS + 'STRUCT t: { f: set<bool>; };\nDEFINE\n'
+PARTED = SIGNALS + 'STRUCT t: { a: bool; };\nSTRUCT u0: { f: set<bool>; };\nDEFINE s:={p};\n'
+UNUSED = SIGNALS + 'DEFINE\ns:={%s};\nz:={%s};\n' % (members(180, '#'), ','.join(map(str, range(1, 33))))
+TWO = '{t(p),t(q)}'
+TWO_SETS = '{t({p}),t({q})}'
 
 
 def one_field(number):
@@ -397,9 +456,61 @@ TEXTS = [
     filled('outer-sets', '15 such pairs, where each set but the outermost two holds the outermost formula',
            SIGNALS + 'DEFINE\n', numbered(open_sets('{{p},{q}}', '{{A},{A}}', 'abcdeijklmntvwy', '{0}')), 'FTSPEC p;\n'),
     Text('passed-literals', 'one definition of 60 quantifiers over one stored struct, within 15 over two structs that are written '
-         'out', lambda: passed_literals(['r'] * 60)),
+         'out', lambda: PICKED + numbered(over([TWO] * 15 + ['r'] * 60, 'a.a'))(0) + 'FTSPEC p;\n'),
     Text('passed-outer', 'the same over the outermost variable alone in place of the stored struct',
-         lambda: passed_literals(['{a}'] * 60)),
+         lambda: PICKED + numbered(over([TWO] * 15 + ['{a}'] * 60, 'a.a'))(0) + 'FTSPEC p;\n'),
+    filled('many-passed-literals', 'many of these definitions over one stored struct', PICKED,
+           numbered(over([TWO] * 15 + ['r'] * 60, 'a.a')), 'FTSPEC p;\n'),
+    filled('many-passed-outer', 'many of those over the outermost variable', PICKED,
+           numbered(over([TWO] * 15 + ['{a}'] * 60, 'a.a')), 'FTSPEC p;\n'),
+    filled('unused-members', 'quantifiers over two members, one of which is heavy, that no body asks for, within one over 32 '
+           'numbers', UNUSED,
+           numbered('d#:=foreach(v:z)(foreach(w:{foreach(y:s)(foreach(u:s)(1/v<y-u)),p})(p&&1/v<2));\n'), 'FTSPEC p;\n'),
+    filled('part-singles', '60 quantifiers over one stored struct in a part of the outermost of 15 pairs of written structs',
+           PICKED, numbered(over(['{t(%s),t(q)}' % passing(['r'] * 60, '@.a', 15)] + [TWO] * 14, 'a.a')), 'FTSPEC p;\n'),
+    filled('set-singles', 'the same in a member of the outermost of two sets', PICKED,
+           numbered(over(['{{%s},{q}}' % passing(['r'] * 60, '@.a', 16), 'a'] + [TWO] * 14, 'b')), 'FTSPEC p;\n'),
+    Text('nested-members', 'one definition of 60 quantifiers over two formulas, the first of which is the quantifier within',
+         lambda: SIGNALS + 'DEFINE\n' + numbered(nested_members(60))(0) + 'FTSPEC p;\n'),
+    filled('written-fields', '60 quantifiers over a field that is a set of one, of the outermost of 15 pairs of written structs',
+           OF_SETS, numbered(over([TWO_SETS] * 15 + ['a.f'] * 60, '@')), 'FTSPEC p;\n'),
+    filled('written-sets', 'the same over the outermost of 15 pairs of sets of one', SIGNALS + 'DEFINE\n',
+           numbered(over(['{{p},{q}}'] * 15 + ['a'] * 60, '@')), 'FTSPEC p;\n'),
+    filled('named-fields', 'the same over a field of structs that have names', OF_SETS + apart(2, 't({p})'),
+           numbered(over(['{e0,e1}'] * 15 + ['a.f'] * 60, '@')), 'FTSPEC p;\n'),
+    filled('named-numbers', 'the same over sets of one number, 12 pairs, whose bodies divide',
+           SIGNALS + 'STRUCT t: { f: set<int>; };\nDEFINE\n' + apart(2, 't({1})'),
+           numbered(over(['{e0,e1}'] * 12 + ['a.f'] * 60, 'x/@<1')), 'FTSPEC p;\n'),
+    Text('named-chain', 'one definition of 70 quantifiers, each over the set that the variable before is, within 15 over two',
+         lambda: SIGNALS + 'DEFINE\n' + apart(2, '{' * 70 + 'p' + '}' * 70) + numbered(over(
+             ['{e0,e1}'] * 15 + ['a'] + variables(84)[15:], '@'))(0) + 'FTSPEC p;\n'),
+    filled('written-chain', '40 quantifiers, each over the set that the variable before is, within one over two such written '
+           'sets and 11 over two structs',
+           PICKED, numbered(over(['{%s}' % ','.join('{' * 40 + name + '}' * 40 for name in 'pq')] + [TWO] * 11 + ['a']
+                                 + variables(51)[12:], '@')), 'FTSPEC p;\n'),
+    filled('written-twice', '15 quantifiers over two structs that are written out, both of which hold the variable before',
+           PICKED, numbered(over(chained_over(TWO, '{t(@.a),t(@.a)}', 14), '@.a')), 'FTSPEC p;\n'),
+    filled('passed-twice', '15 quantifiers over two members, both of which are the variable before', PICKED,
+           numbered(over(chained_over(TWO, '{@,@}', 14), '@.a')), 'FTSPEC p;\n'),
+    filled('passed-singles', '70 quantifiers over the variable before alone, within 15 over two structs', PICKED,
+           numbered(over([TWO] * 15 + ['{a}'] + ['{%s}' % name for name in variables(84)[15:]], '@.a')), 'FTSPEC p;\n'),
+    filled('sets-in-parts', '14 quantifiers over two structs with sets of one, each of a quantifier over that of the variable '
+           'before', OF_SETS, numbered(parts_in_sets(14)), 'FTSPEC p;\n'),
+    filled('distinct-structs', 'nine quantifiers over two structs that have names, within one over 60 such structs',
+           PICKED + apart(60, 't(p)'), numbered(over(['{%s}' % members(60, 'e#')] + ['{e0,e1}'] * 9, 'a.a')), 'FTSPEC p;\n'),
+    filled('distinct-written', 'the same over structs that are written out', PICKED,
+           numbered(over(['{%s}' % ','.join(['t(p)'] * 60)] + [TWO] * 9, 'a.a')), 'FTSPEC p;\n'),
+    filled('distinct-rows', 'quantifiers over 64 structs that are written out around one over 400 that are stored',
+           PICKED + apart(400, 't(p)') + 's:={%s};\n' % members(400, 'e#'),
+           numbered(over(['{%s}' % ','.join(['t(p)'] * 64), 's'], 'a.a')), 'FTSPEC p;\n'),
+    filled('distinct-sets', '50 quantifiers over a field that is a set of one, of one of 60 structs, within nine over two',
+           OF_SETS + apart(60, 't({p})'), numbered(over(['{%s}' % members(60, 'e#')] + ['{e0,e1}'] * 9 + ['a.f'] * 50, '@')),
+           'FTSPEC p;\n'),
+    filled('parted-fields', 'quantifiers over fields of written structs in parts of other such structs, around 50 over a formula',
+           PARTED, numbered(parted(7, 50)), 'FTSPEC p;\n'),
+    filled('passed-booleans', '90 quantifiers over a field that is a set of one formula, within one over pairs of 181 structs',
+           OF_SETS + apart(181, 't({p})') + 's:={%s};\n' % members(181, 'e#'),
+           numbered(over(['s', 's'] + ['b.f', 'a.f'] * 45, '@')), 'FTSPEC p;\n'),
     filled('distinct-fields', 'unused definitions over pairs of 28 and of 256 structs, and over one of their 8 fields, which are '
            'sets of one or two, otherwise in each struct',
            structs_of_sets([[1 + (k >> place & 1) for place in range(8)] for k in range(256)])

@@ -3,9 +3,9 @@
 use Rattle.std.proofs.Common.{◌≡◌, ℕ, ◌+◌, ◌*◌, ◌/◌, ◌<◌, ◌≤◌, Bor, false, get_or, Some, List, [], ◌∷◌, ◌++◌, ◌⊎◌, inl, inr, length, slice_get, sym, subst, ap, ◌∙◌, arith}
 use Rattle.std.proofs.lemmas.Bool.{cases_lt}
 use Rattle.std.proofs.lemmas.List.{length-append}
-use Rattle.std.proofs.Math.Nat.{mul-le-mul_left}
+use Rattle.std.proofs.Math.Nat.{mul-le-mul_left, mul-suc}
 use Rattle.std.proofs.lemmas.Option.{same_Some, slice_get-get_or, slice_get_within}
-use Rattle.c2po_nodes.proofs.Places.{at_push}
+use Rattle.c2po_nodes.proofs.Places.{at_push, get_last, get_left}
 use Rattle.c2po_unfold.specs.declared.path.Path.{Path}
 use Rattle.c2po_unfold.specs.declared.path.Turn.{Turn}
 use Rattle.c2po_unfold.specs.declared.each.Each.{Each}
@@ -18,11 +18,13 @@ use Rattle.c2po_unfold.specs.declared.scope.Member.{Member}
 use Rattle.c2po_unfold.specs.declared.scope.Draw.{Draw}
 use Rattle.c2po_unfold.specs.declared.scope.Scope.{Scope}
 use Rattle.c2po_unfold.specs.declared.unfolding.Unfolding.{Unfolding}
-use Rattle.c2po_unfold.specs.Cases.{IsDrawn, IsReached, chosen, path_of}
+use Rattle.c2po_unfold.specs.Cases.{IsDrawn, IsMember, IsReached, chosen, path_of}
 use Rattle.c2po_unfold.specs.Covering.{Mode}
 use Rattle.c2po_unfold.specs.Environment.{Env}
-use Rattle.c2po_unfold.specs.Ahead.{AreLight, AreListed, HasMember, IsAheadIn, IsTold, IsTurnAhead, KnownFor}
+use Rattle.c2po_unfold.specs.Ahead.{AreLight, AreListed, AreStored, HasMember, HoldsFor, IsAheadIn, IsTold, IsTurnAhead, KnownFor}
 use Rattle.c2po_unfold.specs.Heads.{HeadsIn}
+use Rattle.c2po_unfold.specs.Holding.{Holds}
+use Rattle.c2po_unfold.specs.declared.values.Stored.{Stored}
 use Rattle.c2po_unfold.specs.Resolving.{resolved_value, resolved_values}
 use Rattle.c2po_unfold.specs.Scopes.{MeetsIn, names_of}
 use Rattle.c2po_unfold.specs.Values.{Value, list_of, members}
@@ -155,3 +157,61 @@ light_ahead u scope q set paths turns ahead within e es start is light turn begi
       let has = light.each m base g.0 i j p own inside number found (record { fits = g.1; resolved = names }) in
       turn.holds m base env i j p v inside h count (subst (HasMember m u turns (i + n * j)) same has);
 }
+
+-- no stored values after other members
+pub stored_none : (u : Unfolding) (values : List Stored) (old : List Member) → AreStored u values 0 old old
+stored_none u values old = record { count = omega arith; kept = λ k x at. at; there = λ m i s v inside. absurd (omega (arith, inside)) }
+
+-- one more
+pub stored_more : (u : Unfolding) (values : List Stored) (i : ℕ) (own : Stored) (old now new : List Member) (x : Member) → AreStored u values i old now →
+    new ≡ now ++ x ∷ [] → slice_get values i ≡ Some own → ((m : Mode) (v : Value) → Holds u own v → IsMember m u x v) → AreStored u values (i + 1) old new
+stored_more u values i own old now new x h longer at known = record {
+  count = ap length longer ∙ (length-append now (x ∷ []) ∙ omega (arith, h.count));
+  kept = λ k y before. further k y (h.kept k y before);
+  there = λ m j s v inside found holds. by m j s v found holds (or_last j i inside);
+}
+  where
+    further : (k : ℕ) (y : Member) → slice_get now k ≡ Some y → slice_get new k ≡ Some y
+    further k y before = subst (λ xs. slice_get xs k ≡ Some y) (sym longer) (get_left now (x ∷ []) k y before)
+
+    by : (m : Mode) (j : ℕ) (s : Stored) (v : Value) → slice_get values j ≡ Some s → Holds u s v → (j < i) ⊎ (j ≡ i) →
+        (y : Member) × (slice_get new (length old + j) ≡ Some y) × IsMember m u y v
+    by m j s v found holds (inl inside) =
+        let g = h.there m j s v inside found holds in
+        (g.0, further (length old + j) g.0 g.1, g.2)
+    by m j s v found holds (inr last) =
+        let place : length old + j ≡ length now = omega (arith, h.count, last) in
+        let same : s ≡ own = same_Some s own (sym found ∙ subst (λ k. slice_get values k ≡ Some own) (sym last) at) in (
+          x,
+          subst (λ xs. slice_get xs (length old + j) ≡ Some x) (sym longer) (subst (λ k. slice_get (now ++ x ∷ []) k ≡ Some x) (sym place) (get_last now x)),
+          known m v (subst (λ r. Holds u r v) same holds),
+        )
+
+-- the stored values of the first expressions, and of one more
+pub turns_held : (u : Unfolding) (scope : Scope) (paths : List Path) (es : List Resolved) (t : ℕ) (e : Resolved) (values : List Stored) (old new : List Member) →
+    AreListed u scope paths es t old → slice_get es t ≡ Some e → length values ≡ length paths → AreStored u values (length values) old new →
+    ((m : Mode) (base env : Env) (i : ℕ) (p : Path) → slice_get paths i ≡ Some p → MeetsIn (chosen m (path_of p)) u base scope env e →
+    HoldsFor u values i (resolved_value e env)) → AreListed u scope paths es (t + 1) new
+turns_held u scope paths es t e values old new h at whole more holds = record {
+  count = more.count ∙ omega (arith, h.count, whole, mul-suc (length paths) t);
+  each = λ m base env i j p d inside round there meets. by m base env i j p d inside there meets (or_last j t round);
+}
+  where
+    n : ℕ
+    n = length paths
+
+    by : (m : Mode) (base env : Env) (i j : ℕ) (p : Path) (d : Resolved) → slice_get paths i ≡ Some p → slice_get es j ≡ Some d →
+        MeetsIn (chosen m (path_of p)) u base scope env d → (j < t) ⊎ (j ≡ t) → HasMember m u new (i + n * j) (resolved_value d env)
+    by m base env i j p d inside there meets (inl round) =
+        let g = h.each m base env i j p d inside round there meets in
+        (g.0, more.kept (i + n * j) g.0 g.1, g.2)
+    by m base env i j p d inside there meets (inr last) =
+        let same : e ≡ d = same_Some e d (sym at ∙ subst (λ k. slice_get es k ≡ Some d) last there) in
+        let own = holds m base env i p inside (subst (λ x. MeetsIn (chosen m (path_of p)) u base scope env x) (sym same) meets) in
+        let first : i < length values = subst (λ k. i < k) (sym whole) (slice_get_within paths i p inside) in
+        let g = more.there m i own.0 (resolved_value e env) first own.1 own.2 in
+        let place : length old + i ≡ i + n * j = subst (λ k. length old + i ≡ i + n * k) (sym last) (omega (arith, h.count)) in (
+          g.0,
+          subst (λ k. slice_get new k ≡ Some g.0) place g.1,
+          subst (λ x. IsMember m u g.0 (resolved_value x env)) same g.2,
+        )

@@ -87,6 +87,13 @@ pub record IsListed (each : Each) (n : ℕ) (old new : List Member) : Type 0 whe
   pub listed : (i : ℕ) → i < n → (x : Member) × (slice_get new (length old + i) ≡ Some x)
       × (known_at each i ≡ Some x.summary) × (x.stored ≡ None)
 
+-- after other members there are the first n of these stored values
+pub record AreStored (u : Unfolding) (values : List Stored) (n : ℕ) (old new : List Member) : Type 0 where
+  pub count : length new ≡ length old + n
+  pub kept : (k : ℕ) (x : Member) → slice_get old k ≡ Some x → slice_get new k ≡ Some x
+  pub there : (m : Mode) (i : ℕ) (s : Stored) (v : Value) → i < n → slice_get values i ≡ Some s → Holds u s v
+      → (x : Member) × (slice_get new (length old + i) ≡ Some x) × IsMember m u x v
+
 -- members say what is known of the first t expressions in each of these cases, one expression after the other
 pub record AreListed (u : Unfolding) (scope : Scope) (paths : List Path) (es : List Resolved) (t : ℕ)
     (all : List Member) : Type 0 where

@@ -21,6 +21,7 @@ use crate::fault::deeper;
 use crate::path::{Cases, Path};
 use crate::resolved::{Hint, Resolved};
 use crate::scope::{Choice, Draw, Head, Scope, Site};
+use crate::together::FEW;
 use crate::values::Stored;
 use mltl_base::Name;
 
@@ -261,6 +262,48 @@ impl Unfolding {
                 Shared::Apart(draw) => Ok(Shared::Apart(draw)),
             },
             _ => Err(Stop::Alone),
+        }
+    }
+
+    /// What a set leads to in each case, where that is the same in all of them.
+    pub(crate) fn set_in<'a>(
+        &self,
+        at: Site<'a>,
+        cases: Cases<'_>,
+        set: &'a Resolved,
+    ) -> Result<Head<'a>, Stop>
+        ensures { (m : Mode) (base env : Env) (i : ℕ) (p : CasePath)
+            → slice_get cases.entry.paths.now i ≡ Some p
+            → MeetsIn (chosen m (path_of p)) self.now base at.entry.scope.now env set.entry.now
+            → IfOk result
+            (λ h. HeadsIn (chosen m (path_of p)) self.now base h (resolved_value set.entry.now env)) }
+    {
+        let head = self.head(at.depth, at.scope, set)?;
+        let Head::Varied(_) = head else {
+            return Ok(head);
+        };
+        match self.head_in(at.depth, cases.paths, at.scope, set) {
+            Ok(Shared::Head(shared)) => Ok(shared),
+            _ => Ok(head),
+        }
+    }
+
+    /// The members that many cases draw, where a set differs with them and isn't stored.
+    pub(crate) fn drawn_apart<'a>(
+        &self,
+        at: Site<'a>,
+        cases: Cases<'_>,
+        set: &'a Resolved,
+    ) -> Option<Draw<'a>> {
+        if cases.len() <= FEW {
+            return None;
+        }
+        let Ok(Shared::Apart(draw)) = self.head_in(at.depth, cases.paths, at.scope, set) else {
+            return None;
+        };
+        match self.traced(at, cases, set) {
+            Ok(_stored) => None,
+            Err(_) => Some(draw),
         }
     }
 

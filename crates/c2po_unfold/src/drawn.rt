@@ -139,7 +139,7 @@ impl Unfolding {
 
     /// What is known in each case of an expression, by those cases that draw what the first one does, and by all others.
     #[cycle(each)]
-    fn each_parted(
+    pub(crate) fn each_parted(
         &self,
         at: Site<'_>,
         cases: Cases<'_>,

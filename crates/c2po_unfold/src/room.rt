@@ -46,6 +46,11 @@ impl Room {
         self.left
     }
 
+    /// Whether no value but a light one fits.
+    pub(crate) fn is_light(self) -> bool {
+        self.left <= LIGHT
+    }
+
     /// Returns the room of a light value, or what is left where that is less.
     pub(crate) fn light(self) -> Room {
         Room {

@@ -106,19 +106,6 @@ impl<'a> Choice<'a> {
         self.members.get(path.at(self.level)?)
     }
 
-    /// Whether its first member is a stored value with parts.
-    pub(crate) fn is_whole(self) -> bool {
-        match self.members.get(0) {
-            Some(
-                Member {
-                    stored: Some(stored),
-                    ..
-                },
-            ) => stored.is_whole(),
-            _ => false,
-        }
-    }
-
     /// Whether its members are listed.
     pub(crate) fn is_listed(self) -> bool {
         !self.members.is_empty()

@@ -45,7 +45,7 @@ use std::alloc::{AllocError, AllocFailed, Global};
 pub(crate) const TOGETHER: usize = 64;
 
 /// The number of cases up to which two members or more are looked at together.
-const FEW: usize = TOGETHER / 2;
+pub(crate) const FEW: usize = TOGETHER / 2;
 
 /// The members from one on that are looked at together, where there are `count` cases already.
 pub(crate) fn group<T>(members: &[T], start: usize, count: usize) -> Option<&[T]>
@@ -111,8 +111,6 @@ impl Unfolding {
         };
         match self.head_in(at.depth, first, at.scope, e) {
             Ok(Shared::Head(Head::Struct(..) | Head::Set(..))) => true,
-            Ok(Shared::Head(Head::Held(stored))) => stored.is_whole(),
-            Ok(Shared::Head(Head::Varied(choice))) => choice.is_whole(),
             _ => false,
         }
     }
@@ -168,10 +166,41 @@ impl Unfolding {
                 let b = self.each(at, cases, b, room)?;
                 Each::over_two(self.alloc, *op, &a, &b, cases.len(), room)
             }
+            Resolved::Joined(..) | Resolved::Counted(..) => {
+                self.each_quantifier(at, cases, e, room)
+            }
+            Resolved::Column(_, name, rows) => {
+                self.each_column(at, cases, e, name, rows.as_slice(), room)
+            }
+            _ => self.each_head(at, cases, e, room),
+        }
+    }
+
+    /// What is known in each case of a quantifier. Where cases are many, those that draw different sets are parted.
+    #[cycle(each)]
+    fn each_quantifier(
+        &self,
+        at: Site<'_>,
+        cases: Cases<'_>,
+        e: &Resolved,
+        room: Room,
+    ) -> Result<Each, Stop>
+        ensures { (m : Mode) (base env : Env) (i : ℕ) (p : CasePath)
+            → slice_get cases.entry.paths.now i ≡ Some p
+            → MeetsIn (chosen m (path_of p)) self.now base at.entry.scope.now env e.now
+            → IfOk result (λ r. KnownFor m r i (resolved_value e.now env)) }
+    {
+        match e {
             Resolved::Joined(op, name, set, body) => {
+                if let Some(draw) = self.drawn_apart(at, cases, set) {
+                    return self.each_parted(at, cases, e, draw, room);
+                }
                 self.each_joined(at, cases, *op, Quantified { name, set, body }, room)
             }
             Resolved::Counted(op, number, name, set, body) => {
+                if let Some(draw) = self.drawn_apart(at, cases, set) {
+                    return self.each_parted(at, cases, e, draw, room);
+                }
                 self.each_counted(
                     at,
                     cases,
@@ -181,10 +210,7 @@ impl Unfolding {
                     room,
                 )
             }
-            Resolved::Column(_, name, rows) => {
-                self.each_column(at, cases, e, name, rows.as_slice(), room)
-            }
-            _ => self.each_head(at, cases, e, room),
+            _ => Err(Stop::Alone),
         }
     }
 
@@ -308,7 +334,7 @@ impl Unfolding {
         if !cases.nested {
             return Err(Stop::Alone);
         }
-        let set = self.head(at.depth, at.scope, bodies.set)?;
+        let set = self.set_in(at, cases, bodies.set)?;
         if let Head::Varied(_) = set {
             return self.joined_apart(at, cases, op, bodies, room);
         }
@@ -349,7 +375,7 @@ impl Unfolding {
         if !cases.nested {
             return Err(Stop::Alone);
         }
-        let set = self.head(at.depth, at.scope, bodies.set)?;
+        let set = self.set_in(at, cases, bodies.set)?;
         if let Head::Varied(_) = set {
             return self.counted_apart(at, cases, op, number, bodies, room);
         }
@@ -540,10 +566,13 @@ impl Unfolding {
         ensures { IfOk result (λ r. IfSome r (λ turns. AreLight self.now at.entry.scope.now
             cases.entry.paths.now set.now i turns.items)) }
     {
-        if self.is_whole(at, cases, set, i) {
+        let members = group(set, i, cases.len()).ok_or(Stop::Alone)?;
+        if let Ok(turns) = self.held_turns(at, cases, members, i) {
+            return Ok(Some(turns));
+        }
+        if room.is_light() || self.is_whole(at, cases, set, i) {
             return Ok(None);
         }
-        let members = group(set, i, cases.len()).ok_or(Stop::Alone)?;
         match self.listed(at, cases, members, room.light()) {
             Ok(turns) => Ok(Some(turns)),
             Err(Stop::Alone) => Ok(None),

@@ -1,8 +1,8 @@
 //! The stored values that expressions lead to, in several cases at once.
 
-ghost use Rattle.std.specs.Prelude.{◌≡◌, ℕ, Some, IfOk, IfSome, slice_get};
+ghost use Rattle.std.specs.Prelude.{◌≡◌, ℕ, Some, IfOk, IfSome, OnOk, length, slice_get};
 ghost use Rattle.c2po_unfold.specs.declared.path.Path.{Path as CasePath};
-ghost use Rattle.c2po_unfold.specs.Ahead.{HoldsFor, KnownFor, RowsLead};
+ghost use Rattle.c2po_unfold.specs.Ahead.{AreListed, AreStored, HoldsFor, KnownFor, RowsLead};
 ghost use Rattle.c2po_unfold.specs.Cases.{Case, IsVaried, chosen, path_of};
 ghost use Rattle.c2po_unfold.specs.Covering.{Mode};
 ghost use Rattle.c2po_unfold.specs.Environment.{Env, fields_in};
@@ -16,7 +16,7 @@ use crate::each::{Each, Stop, add};
 use crate::fault::deeper;
 use crate::path::Cases;
 use crate::resolved::{Hint, Resolved, Row};
-use crate::scope::{Choice, Led, Scope, Site};
+use crate::scope::{Choice, Led, Member, Scope, Site};
 use crate::values::Stored;
 use mltl_base::Name;
 
@@ -155,5 +155,47 @@ impl Unfolding {
             add(&mut all, self.held_part(scope, *whole, field, hint))?;
         }
         Ok(all)
+    }
+
+    /// Members for cases: the stored value that each of these expressions leads to in all cases, one expression after the other.
+    pub(crate) fn held_turns(
+        &self,
+        at: Site<'_>,
+        cases: Cases<'_>,
+        es: &[Resolved],
+        start: usize,
+    ) -> Result<Vec<Member>, Stop>
+        ensures { IfOk result (λ r. AreListed self.now at.entry.scope.now cases.entry.paths.now
+            es.now (length es.now) r.items) }
+    {
+        let n = cases.len();
+        let count = n.checked_mul(es.len()).ok_or(Stop::Alone)?;
+        let mut all = Vec::with_capacity(self.alloc, count)?;
+        let mut index = start;
+        for e in es {
+            let values = self.traced(at, cases, e)?;
+            if values.len() != n {
+                return Err(Stop::Alone);
+            }
+            self.add_stored(values.as_slice(), index, &mut all)?;
+            index = index.saturating_add(1);
+        }
+        Ok(all)
+    }
+
+    /// Puts stored values after other members, each as the member with this number of its set.
+    fn add_stored(&self, values: &[Stored], index: usize, all: &mut Vec<Member>) -> Result<(), Stop>
+        ensures { OnOk result
+            (AreStored self.now values.now (length values.now) all.old.items all.new.items) }
+    {
+        for stored in values {
+            let member = Member {
+                summary: self.held(*stored),
+                stored: Some(*stored),
+                index,
+            };
+            add(&mut *all, member)?;
+        }
+        Ok(())
     }
 }

@@ -34,11 +34,6 @@ impl Location {
 }
 
 impl Stored {
-    /// Whether it has parts, as a struct's value or a set.
-    pub(crate) fn is_whole(self) -> bool {
-        matches!(self.location, Location::Parts(_))
-    }
-
     /// Whether this is the same stored value, without a fault.
     #[inline(always)]
     pub(crate) fn is(self, other: Stored) -> bool

@@ -74,18 +74,6 @@ each_of-returns-in_ok-b-in-Binary t c = λ m base env i p inside h.
     (c.in_ok-a-in-Binary.ensures m base env i p inside both.0)
     (c.in_ok-b-in-Binary.ensures m base env i p inside both.1))
 
-pub each_of-returns-in-Joined : goal.each_of-returns-in-Joined
-each_of-returns-in-Joined t c = λ m base env i p inside h.
-    let u = c.args.self.now in
-    let scope = c.args.at.scope.now in
-    let k = chosen m (path_of p) in
-    let parts = subst (IsResolved u base (names_of scope)) c.in-Joined.is h.resolved in
-    subst (λ w. IfOk c.each_joined.result (λ r. KnownFor m r i w))
-    (ap (connected_all c.in-Joined.op) (bodies_by c.in-Joined.name env _ _ _ _ c.deref-in-Joined.ensures c.deref-in-Joined-2.ensures) ∙ sym (ap (λ r. resolved_value r env) c.in-Joined.is))
-    (c.each_joined.ensures m base env i p inside
-    (part_meets k u base scope env c.args.e.now _ h (subst (IsResolved u base (names_of scope)) (sym c.deref-in-Joined.ensures) parts.0))
-    (body_meets k u base scope env _ _ c.deref-in-Joined-2.ensures h.fits parts.1))
-
 pub each_of-returns-in-Column : goal.each_of-returns-in-Column
 each_of-returns-in-Column t c = λ m base env i p inside h.
     let u = c.args.self.now in
@@ -196,19 +184,7 @@ each_joined-returns t c = λ m base env i p inside set body.
       c.loop-i.auto.i-end,
       subst (λ o. IfSome o (λ (k : ℕ). k ≡ length (members s))) c.in_ok-count.ensures.ok_part (c.shared_count.ensures d base s h),
     ))
-    m base env i p (resolved_value c.args.bodies.set.now env) inside body (c.in_ok-set.ensures.head k base env set)
-
-pub each_of-returns-in-Counted : goal.each_of-returns-in-Counted
-each_of-returns-in-Counted t c = λ m base env i p inside h.
-    let u = c.args.self.now in
-    let scope = c.args.at.scope.now in
-    let k = chosen m (path_of p) in
-    let parts = subst (IsResolved u base (names_of scope)) c.in-Counted.is h.resolved in
-    subst (λ w. IfOk c.each_counted.result (λ r. KnownFor m r i w))
-    (ap (counted c.in-Counted.op c.in-Counted.number) (bodies_by c.in-Counted.name env _ _ _ _ c.deref-in-Counted.ensures c.deref-in-Counted-2.ensures) ∙ sym (ap (λ r. resolved_value r env) c.in-Counted.is))
-    (c.each_counted.ensures m base env i p inside
-    (part_meets k u base scope env c.args.e.now _ h (subst (IsResolved u base (names_of scope)) (sym c.deref-in-Counted.ensures) parts.0))
-    (body_meets k u base scope env _ _ c.deref-in-Counted-2.ensures h.fits parts.1))
+    m base env i p (resolved_value c.args.bodies.set.now env) inside body (c.in_ok-set.ensures m base env i p inside set)
 
 pub each_gathered-loop-i-init : goal.each_gathered-loop-i-init
 each_gathered-loop-i-init t c =
@@ -253,7 +229,7 @@ pub each_counted-returns : goal.each_counted-returns
 each_counted-returns t c = λ m base env i p inside set body.
     let k = chosen m (path_of p) in
     let s = resolved_value c.args.bodies.set.now env in
-    let heads = c.in_ok-set.ensures.head k base env set in
+    let heads = c.in_ok-set.ensures m base env i p inside set in
     let all = resolved_bodies c.args.bodies env s in
     let count : c.in_ok-members.members ≡ length (members s) =
     subst (λ o. IfSome o (λ (n : ℕ). n ≡ length (members s))) c.in_ok-members.ensures.ok_part (c.shared_count.ensures k base s heads) in
@@ -557,3 +533,35 @@ bodies_from-returns-in_ok-ahead-in-Some-clause-ahead t c =
     light_ahead u c.args.at.scope.now c.args.bodies c.args.set.now paths c.as_slice-turns.result.now c.in_ok-ahead-in-Some.ahead c.in-Set.within c.in-Set.e
     c.in-Set.members c.args.i c.in-Set.is (subst (AreLight u c.in-Set.within.now paths c.in-Set.members.now c.args.i) (sym c.as_slice-turns.ensures.value) light)
     ahead.ahead ahead.start ahead.within
+
+pub each_quantifier-returns-in_default-drawn_apart : goal.each_quantifier-returns-in_default-drawn_apart
+each_quantifier-returns-in_default-drawn_apart t c = λ m base env i p inside h.
+    let u = c.args.self.now in
+    let scope = c.args.at.scope.now in
+    let k = chosen m (path_of p) in
+    let parts = subst (IsResolved u base (names_of scope)) c.in-Joined.is h.resolved in
+    subst (λ w. IfOk c.each_joined.result (λ r. KnownFor m r i w))
+    (ap (connected_all c.in-Joined.op) (bodies_by c.in-Joined.name env _ _ _ _ c.deref-in-Joined.ensures c.deref-in-Joined-2.ensures) ∙ sym (ap (λ r. resolved_value r env) c.in-Joined.is))
+    (c.each_joined.ensures m base env i p inside
+    (part_meets k u base scope env c.args.e.now _ h (subst (IsResolved u base (names_of scope)) (sym c.deref-in-Joined.ensures) parts.0))
+    (body_meets k u base scope env _ _ c.deref-in-Joined-2.ensures h.fits parts.1))
+
+pub each_quantifier-returns-in_default-drawn_apart-2 : goal.each_quantifier-returns-in_default-drawn_apart-2
+each_quantifier-returns-in_default-drawn_apart-2 t c = λ m base env i p inside h.
+    let u = c.args.self.now in
+    let scope = c.args.at.scope.now in
+    let k = chosen m (path_of p) in
+    let parts = subst (IsResolved u base (names_of scope)) c.in-Counted.is h.resolved in
+    subst (λ w. IfOk c.each_counted.result (λ r. KnownFor m r i w))
+    (ap (counted c.in-Counted.op c.in-Counted.number) (bodies_by c.in-Counted.name env _ _ _ _ c.deref-in-Counted-2.ensures c.deref-in-Counted-3.ensures) ∙ sym (ap (λ r. resolved_value r env) c.in-Counted.is))
+    (c.each_counted.ensures m base env i p inside
+    (part_meets k u base scope env c.args.e.now _ h (subst (IsResolved u base (names_of scope)) (sym c.deref-in-Counted-2.ensures) parts.0))
+    (body_meets k u base scope env _ _ c.deref-in-Counted-3.ensures h.fits parts.1))
+
+pub light_members-returns-in-Ok-listed : goal.light_members-returns-in-Ok-listed
+light_members-returns-in-Ok-listed t c =
+    let es = c.args.set.now in
+    let some = c.in_ok-members.members.now in
+    let grouped = subst (λ o. IfSome o (λ (part : Bor (List Resolved)). (j : ℕ) (d : Resolved) → slice_get part.now j ≡ Some d → slice_get es (c.args.i + j) ≡ Some d))
+    c.in_ok-members.ensures.ok_part c.group.ensures in
+    some_light c.args.self.now c.args.at.scope.now c.args.cases.paths.now es some c.args.i c.in-Ok-listed.turns.items c.in-Ok-listed.ensures grouped

@@ -122,3 +122,6 @@ decreases-each_parted l = 20 * l.at.depth + 2
 
 abbrev pub decreases-light_members : goal.decreases-light_members
 decreases-light_members l = 20 * l.at.depth + 3
+
+abbrev pub decreases-each_quantifier : goal.decreases-each_quantifier
+decreases-each_quantifier l = 20 * l.at.depth + 11
