@@ -363,7 +363,8 @@ impl Unfolding {
         Ok(counting.of(&all, over.room)?)
     }
 
-    /// A quantifier over these sets.
+    /// A quantifier over these sets: where each has one member, and the last number of each path is that of its case, the cases
+    /// are those that there are.
     fn over<'a>(
         &self,
         at: Site<'a>,
@@ -385,9 +386,12 @@ impl Unfolding {
             level: cases.level(),
             room,
         };
-        if self.goes_over_single(&over) {
-            let level = over.level.saturating_sub(1);
-            Over { level, ..over }
+        let last = over.level.saturating_sub(1);
+        if cases.are_numbered(last) && self.goes_over_single(&over) {
+            Over {
+                level: last,
+                ..over
+            }
         } else {
             over
         }
