@@ -140,6 +140,9 @@ impl Unfolding {
             Resolved::Variable(name) => self.entry_in(levels, paths, scope.entry(name)),
             Resolved::Column(e, ..) => self.head_in(levels, paths, scope, e),
             Resolved::Part(whole, field, hint) => {
+                if let Some((within, part)) = self.written_part(scope, whole, field, hint) {
+                    return self.head_in(levels, paths, within, part);
+                }
                 match self.head_in(levels, paths, scope, whole)? {
                     Shared::Head(whole) => self.part_in(levels, paths, scope, whole, field, hint),
                     Shared::Apart(draw) => Ok(Shared::Apart(draw)),

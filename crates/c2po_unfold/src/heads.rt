@@ -206,7 +206,7 @@ impl Unfolding {
 
     /// The part that a field names of a variable's value, where that is a struct's value that is written out.
     #[inline(always)]
-    fn written_part<'a>(
+    pub(crate) fn written_part<'a>(
         &self,
         scope: &'a Scope<'a>,
         whole: &Resolved,

@@ -126,11 +126,11 @@ head_in-returns-in-Head t c = λ m base env i p inside h.
     let u = c.args.self.now in
     let k = chosen m (path_of p) in
     let e = c.args.e.now in
-    let d = c.deref-in-Part.result.now in
-    let whole = whole_meets k u base c.args.scope.now env e _ d _ c.in-Part.field c.in-Part.hint h c.in-Part.is c.deref-in-Part.ensures in
+    let d = c.deref-in-Part-2.result.now in
+    let whole = whole_meets k u base c.args.scope.now env e _ d _ c.in-Part.field c.in-Part.hint h c.in-Part.is c.deref-in-Part-2.ensures in
     let heads = subst (λ r. IsShared k u base r (resolved_value d env)) c.in-Head.is (c.in_ok-whole-in-Part.ensures m base env i p inside whole.0) in
     subst (λ w. IfOk c.part_in.result (λ r. IsShared k u base r w))
-    (field_same env e _ d _ c.in-Part.field c.in-Part.hint c.in-Part.is c.deref-in-Part.ensures)
+    (field_same env e _ d _ c.in-Part.field c.in-Part.hint c.in-Part.is c.deref-in-Part-2.ensures)
     (c.part_in.ensures m base env i p (resolved_value d env) inside h.fits whole.1 heads)
 
 pub member_in-returns-in-Head : goal.member_in-returns-in-Head
@@ -148,3 +148,15 @@ part_in-returns-in-Head t c = λ m base env i p v inside f place-right heads.
     let varied = subst (λ h. HeadsIn k u base h v) c.in-Varied.is heads in
     let held = subst (λ r. IsShared k u base r v) c.in-Head.is (c.in_ok-whole-in-Varied.ensures m u base i p v inside varied) in
     c.part_in.ensures m base env i p v inside f place-right held
+
+pub head_in-returns-in-Some : goal.head_in-returns-in-Some
+head_in-returns-in-Some t c = λ m base env i p inside h.
+    let u = c.args.self.now in
+    let k = chosen m (path_of p) in
+    let e = c.args.e.now in
+    let d = c.deref-in-Part.result.now in
+    let whole = whole_meets k u base c.args.scope.now env e _ d _ c.in-Part.field c.in-Part.hint h c.in-Part.is c.deref-in-Part.ensures in
+    let part = c.in-Some.ensures k base env whole.0 whole.1 in
+    subst (λ w. IfOk c.head_in-in-Some.result (λ r. IsShared k u base r w))
+    (part.2 ∙ field_same env e _ d _ c.in-Part.field c.in-Part.hint c.in-Part.is c.deref-in-Part.ensures)
+    (c.head_in-in-Some.ensures m base part.0 i p inside part.1)
