@@ -12,6 +12,7 @@ use Rattle.c2po_unfold.specs.declared.scope.Head.{Head}
 use Rattle.c2po_unfold.specs.declared.scope.Head.TheVariants as head
 use Rattle.c2po_unfold.specs.declared.scope.Choice.{Choice}
 use Rattle.c2po_unfold.specs.declared.scope.Draw.{Draw}
+use Rattle.c2po_unfold.specs.declared.scope.Draw.TheVariants.{First, Turned}
 use Rattle.c2po_unfold.specs.declared.scope.Member.{Member}
 use Rattle.c2po_unfold.specs.declared.scope.Scope.{Scope, Top, Open', Held', Covered', Varied', Drawn'}
 use Rattle.c2po_unfold.specs.declared.unfolding.Unfolding.{Unfolding}
@@ -59,15 +60,25 @@ heads_further c d base u (head.Covered s) v f k = subst (λ m. IsOfLeaf m s.now 
 heads_further c d base u (head.Varied choice) v f k = f.varied choice v k
 
 -- where each variable has one value, it has that in any case
+drawn_only : (m : Mode) (path : List ℕ) (draw : Draw) (s v : Value) → IsDrawn (only m) draw s v → IsDrawn (chosen m path) draw s v
+drawn_only m path First s v h = h
+drawn_only m path (Turned turns level) s v h = absurd h
+
 pub only_further : (m : Mode) (path : List ℕ) (u : Unfolding) → IsFurther (only m) (chosen m path) u
-only_further m path u = record { mode = refl; varied = λ choice v h. absurd h; drawn = λ draw s v h. absurd h }
+only_further m path u = record { mode = refl; varied = λ choice v h. absurd h; drawn = drawn_only m path }
+
+-- a member that a case draws, it draws where its path has a number more
+drawn_reached : (m : Mode) (old new : List ℕ) (level number : ℕ) → IsReached old new level number → (draw : Draw) (s v : Value) →
+    IsDrawn (chosen m old) draw s v → IsDrawn (chosen m new) draw s v
+drawn_reached m old new level number reached First s v h = h
+drawn_reached m old new level number reached (Turned turns at) s v h = (h.0, reached.kept at h.0 h.1, h.2)
 
 -- what a case chooses, it chooses where its path has a number more
 pub reached_further : (m : Mode) (old new : List ℕ) (level number : ℕ) (u : Unfolding) → IsReached old new level number → IsFurther (chosen m old) (chosen m new) u
 reached_further m old new level number u reached = record {
   mode = refl;
   varied = λ choice v h. (h.0, reached.kept choice.level h.0 h.1, h.2);
-  drawn = λ draw s v h. (h.0, reached.kept draw.level h.0 h.1, h.2);
+  drawn = drawn_reached m old new level number reached;
 }
 
 -- so what holds of the variables around a body holds of them there

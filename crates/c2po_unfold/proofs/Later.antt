@@ -10,6 +10,8 @@ use Rattle.c2po_unfold.specs.declared.resolved.Resolved.{Resolved, Row_of-Resolv
 use Rattle.c2po_unfold.specs.declared.resolved.Resolved.{Number, Truth, Known as Known', Found', Variable, Build', Group', Part'}
 use Rattle.c2po_unfold.specs.declared.resolved.Resolved.{Column', Unary', Binary', Joined', Counted'}
 use Rattle.c2po_unfold.specs.declared.resolved.Row.{Row}
+use Rattle.c2po_unfold.specs.declared.scope.Draw.{Draw}
+use Rattle.c2po_unfold.specs.declared.scope.Draw.TheVariants.{First, Turned}
 use Rattle.c2po_unfold.specs.declared.scope.Scope.{Scope, Top, Open', Held', Covered', Varied', Drawn'}
 use Rattle.c2po_unfold.specs.declared.scope.Head.{Head}
 use Rattle.c2po_unfold.specs.declared.scope.Head.TheVariants as head
@@ -21,7 +23,7 @@ use Rattle.c2po_unfold.specs.Values.{Value, Values, leaf, leaf_tree, structure, 
 use Rattle.c2po_unfold.specs.Environment.{Env, Known}
 use Rattle.c2po_unfold.specs.Holding.{Holds, HoldAll, Means, StandsFor, Keeps, IsLater}
 use Rattle.c2po_unfold.specs.Resolving.{Agree, AllResolved, AreResolved, AreRows, HasPart, IsResolved, LeadsTo, resolved_value}
-use Rattle.c2po_unfold.specs.Cases.{Case}
+use Rattle.c2po_unfold.specs.Cases.{Case, only, IsDrawn}
 use Rattle.c2po_unfold.specs.Scopes.{Fits, FitsIn, Meets, names_of}
 use Rattle.c2po_unfold.specs.Covering.{Mode, covering}
 use Rattle.c2po_unfold.specs.Summaries.{IsOfLeaf}
@@ -159,7 +161,16 @@ fits_later m base (Held' x s i q outer) old new env g h =
     (h.0, h.1, holds_later h.0 old new s g h.2, fits_later m base outer old new h.1 g h.3, h.4)
 fits_later m base (Covered' x s q outer) old new env g h = (h.0, h.1, h.2, fits_later m base outer old new h.1 g h.3, h.4)
 fits_later m base (Varied' x ms q outer) old new env g h = absurd h.2
-fits_later m base (Drawn' x e p within draw q outer) old new env g h = absurd h.3
+fits_later m base (Drawn' x e p within draw q outer) old new env g h = (
+  h.0,
+  h.1,
+  h.2,
+  h.3,
+  fits_later m base within old new h.1 g h.4,
+  resolved_later old new base (names_of within) e.now g h.5,
+  fits_later m base outer old new h.2 g h.6,
+  h.7,
+)
 
 -- the names of an expression within variables are resolved later too
 pub meets_later : (m : Mode) (base : Env) (scope : Scope) (old new : Unfolding) (env : Env) (e : Resolved) → IsLater old new →
@@ -197,6 +208,10 @@ heads_later m base (head.Varied ms) old new v g k = absurd k
 pub leaf_covered : (m : Mode) (s : Summary) (v : Value) → IsOfLeaf m s v → IsOfLeaf covering s v
 leaf_covered m s v h = (h.0, h.1, record { weight = h.2.weight; fact = says_covering m s.fact (Some (leaf_tree h.0)) h.2.fact })
 
+drawn_covering : (m : Mode) (draw : Draw) (s v : Value) → IsDrawn (only m) draw s v → IsDrawn (only covering) draw s v
+drawn_covering m First s v h = h
+drawn_covering m (Turned turns level) s v h = h
+
 pub fits_covering : (m : Mode) (base : Env) (scope : Scope) (u : Unfolding) (env : Env) → Fits m u base scope env → Fits covering u base scope env
 fits_covering m base Top u env h = h
 fits_covering m base (Open' x e p within q outer) u env h =
@@ -205,7 +220,16 @@ fits_covering m base (Held' x s i q outer) u env h = (h.0, h.1, h.2, fits_coveri
 fits_covering m base (Covered' x s q outer) u env h =
     (h.0, h.1, leaf_covered m s.now h.0 h.2, fits_covering m base outer u h.1 h.3, h.4)
 fits_covering m base (Varied' x ms q outer) u env h = absurd h.2
-fits_covering m base (Drawn' x e p within draw q outer) u env h = absurd h.3
+fits_covering m base (Drawn' x e p within draw q outer) u env h = (
+  h.0,
+  h.1,
+  h.2,
+  drawn_covering m draw (resolved_value e.now h.1) h.0 h.3,
+  fits_covering m base within u h.1 h.4,
+  h.5,
+  fits_covering m base outer u h.2 h.6,
+  h.7,
+)
 
 pub meets_covering : (m : Mode) (base : Env) (scope : Scope) (u : Unfolding) (env : Env) (e : Resolved) →
     Meets m u base scope env e → Meets covering u base scope env e

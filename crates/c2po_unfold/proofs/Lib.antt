@@ -18,6 +18,7 @@ pub mod Pathwise
 pub mod Picking
 pub mod Placing
 pub mod Quantifying
+pub mod Repeating
 pub mod Rows
 pub mod Several
 pub mod Turnwise

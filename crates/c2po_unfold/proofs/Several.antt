@@ -1,9 +1,10 @@
 -- What is known of expressions in several cases at once.
 
-use Rattle.std.proofs.Common.{◌≡◌, ℕ, zero, suc, ◌+◌, ◌-◌, ◌*◌, ◌/◌, ◌<◌, ◌≤◌, Option, Some, None, List, [], ◌∷◌, ◌++◌, ◌⊎◌, inl, inr, length, get_or, slice_get, Bor, refl, sym, subst, ap, ◌∙◌, arith}
+use Rattle.std.proofs.Common.{◌≡◌, ℕ, zero, suc, ◌+◌, ◌-◌, ◌*◌, ◌/◌, ◌<◌, ◌≤◌, Option, Some, None, IfSome, Result, Ok, Err, IfOk, List, [], ◌∷◌, ◌++◌, ◌⊎◌, inl, inr, length, get_or, slice_get, Bor, refl, sym, subst, ap, ◌∙◌, arith}
 use Rattle.std.specs.Slice.{IsGetRangeResult, IsItemAt}
 use Rattle.std.proofs.Math.ListN.{drop}
 use Rattle.std.proofs.Math.Nat.{add-mul-div_left, div-eq_of_lt, mul-le-mul_left, mul-suc, mul-zero}
+use Rattle.std.proofs.lemmas.Bool.{cases_lt}
 use Rattle.std.proofs.lemmas.Option.{get_or_from_slice_get, slice_get_read, slice_get_within, same_Some}
 use Rattle.std.proofs.lemmas.List.{get_or-drop, get_or-take, length-append, length-drop, take_all}
 use Rattle.c2po_unfold.specs.declared.values.Location.TheVariants.{Leaf as LeafAt}
@@ -150,11 +151,48 @@ first_at whole count i o first x h is at =
     (sym (get_or_from_slice_get first.now i x x at) ∙ (ap (λ xs. get_or xs i x) g.0.2
     ∙ (get_or-take (count - 0) (drop 0 whole) i x inside ∙ (get_or-drop 0 whole i x ∙ ap (λ n. get_or whole n x) here))))
 
+-- what is at a place of a slice is among the first ones, or among those that follow
+pub either_at : {A : Type 0} (whole : List A) (count i : ℕ) (o q : Option (Bor (List A))) (first rest : Bor (List A)) (x : A) →
+    IsGetRangeResult whole 0 count o → o ≡ Some first → IsGetRangeResult whole count (length whole) q → q ≡ Some rest → slice_get whole i ≡ Some x →
+    ((i < length first.now) × (slice_get first.now i ≡ Some x)) ⊎ ((k : ℕ) × (i ≡ length first.now + k) × (k < length rest.now) × (slice_get rest.now k ≡ Some x))
+either_at whole count i o q first rest x h is g same at =
+    let f = subst (IsGetRangeResult whole 0 count) is h in
+    let r = subst (IsGetRangeResult whole count (length whole)) same g in
+    let all : i < length whole = slice_get_within whole i x at in
+    let here : get_or whole i x ≡ x = get_or_from_slice_get whole i x x at in
+    elim (cases_lt i count) [
+      | inl inside ↦ inl (
+        omega (arith, inside, f.0.3),
+        slice_get_read first.now (length first.now) i x refl (omega (arith, inside, f.0.3))
+            (sym (ap (λ xs. get_or xs i x) f.0.2 ∙ (get_or-take (count - 0) (drop 0 whole) i x (omega (arith, inside)) ∙ (get_or-drop 0 whole i x
+            ∙ (ap (λ n. get_or whole n x) (omega arith) ∙ here))))),
+      )
+      | inr past ↦ inr (
+        i - count,
+        omega (arith, past, f.0.3),
+        omega (arith, past, all, r.0.3),
+        slice_get_read rest.now (length rest.now) (i - count) x refl (omega (arith, past, all, r.0.3))
+            (sym (ap (λ xs. get_or xs (i - count) x) (r.0.2 ∙ take_all (length whole - count) (drop count whole) (omega (arith, length-drop count whole)))
+            ∙ (get_or-drop count whole (i - count) x ∙ (ap (λ n. get_or whole n x) (omega (arith, past)) ∙ here)))),
+      )
+    ]
+
 -- what a slice lends at a place
 pub lent_at : {A : Type 0} (xs : List A) (i : ℕ) (o : Option (Bor A)) (x : Bor A) → IsItemAt xs i o → o ≡ Some x → slice_get xs i ≡ Some x.now
 lent_at xs i o x h is =
     let g = subst (IsItemAt xs i) is h in
     slice_get_read xs (length xs) i x.now refl g.3.0 g.1
+
+-- what holds of any value holds of that of a result
+pub if_ok : {A E : Type 0} (r : Result A E) (F : A → Type 0) → ((a : A) → F a) → IfOk r F
+if_ok (Ok a) F f = f a
+if_ok (Err e) F f = tt
+
+-- so what holds of each place of a slice holds of what it lends, if it does
+pub lent_is : {A : Type 0} (xs : List A) (i : ℕ) (o : Option (Bor A)) (F : Bor A → Type 0) → IsItemAt xs i o → ((x : Bor A) → slice_get xs i ≡ Some x.now → F x) →
+    IfSome o F
+lent_is xs i (Some x) F h f = f x (lent_at xs i (Some x) x h refl)
+lent_is xs i None F h f = tt
 
 -- what is known in the first cases, after other members
 pub listed_none : (each : Each) (old : List Member) → IsListed each 0 old old
@@ -219,15 +257,15 @@ are_listed_more u scope paths es t e old new each h at more known = record {
         )
 
 -- the first of these are the same
-pub record AreSame (s : Summary) (i : ℕ) (all : List Summary) : Type 0 where
-  pub each : (j : ℕ) (k : Summary) → j < i → slice_get all j ≡ Some k → k ≡ s
+pub record AreSame {A : Type 0} (s : A) (i : ℕ) (all : List A) : Type 0 where
+  pub each : (j : ℕ) (k : A) → j < i → slice_get all j ≡ Some k → k ≡ s
 
-pub same_none : (s : Summary) (all : List Summary) → AreSame s 0 all
+pub same_none : {A : Type 0} (s : A) (all : List A) → AreSame s 0 all
 same_none s all = record { each = λ j k inside. absurd (omega (arith, inside)) }
 
-pub same_more : (s t : Summary) (i : ℕ) (all : List Summary) → AreSame s i all → slice_get all i ≡ Some t → s ≡ t → AreSame s (i + 1) all
-same_more s t i all h at same = record { each = λ j k inside there. by j k there (or_last j i inside) }
+pub same_more : {A : Type 0} (s t : A) (i : ℕ) (all : List A) → AreSame s i all → slice_get all i ≡ Some t → s ≡ t → AreSame s (i + 1) all
+same_more {A = A} s t i all h at same = record { each = λ j k inside there. by j k there (or_last j i inside) }
   where
-    by : (j : ℕ) (k : Summary) → slice_get all j ≡ Some k → (j < i) ⊎ (j ≡ i) → k ≡ s
+    by : (j : ℕ) (k : A) → slice_get all j ≡ Some k → (j < i) ⊎ (j ≡ i) → k ≡ s
     by j k there (inl inside) = h.each j k inside there
     by j k there (inr last) = same_Some k t (sym there ∙ subst (λ n. slice_get all n ≡ Some t) (sym last) at) ∙ sym same

@@ -6,6 +6,7 @@ use Rattle.std.proofs.lemmas.List.{length-append}
 use Rattle.std.proofs.Math.Nat.{mul-le-mul_left, mul-suc}
 use Rattle.std.proofs.lemmas.Option.{same_Some, slice_get-get_or, slice_get_within}
 use Rattle.c2po_nodes.proofs.Places.{at_push, get_last, get_left}
+use Rattle.c2po_unfold.specs.declared.along.Trail.{Trail}
 use Rattle.c2po_unfold.specs.declared.path.Path.{Path}
 use Rattle.c2po_unfold.specs.declared.path.Turn.{Turn}
 use Rattle.c2po_unfold.specs.declared.each.Each.{Each}
@@ -21,6 +22,7 @@ use Rattle.c2po_unfold.specs.declared.unfolding.Unfolding.{Unfolding}
 use Rattle.c2po_unfold.specs.Cases.{IsDrawn, IsMember, IsReached, chosen, path_of}
 use Rattle.c2po_unfold.specs.Covering.{Mode}
 use Rattle.c2po_unfold.specs.Environment.{Env}
+use Rattle.c2po_unfold.specs.Along.{Reaches}
 use Rattle.c2po_unfold.specs.Ahead.{AreLight, AreListed, AreStored, HasMember, HoldsFor, IsAheadIn, IsTold, IsTurnAhead, KnownFor}
 use Rattle.c2po_unfold.specs.Heads.{HeadsIn}
 use Rattle.c2po_unfold.specs.Holding.{Holds}
@@ -57,11 +59,10 @@ turns_more start n l old new t h longer next = record {
         let place : k ≡ l = last.0 ∙ h.count in
         subst (λ (q : Turn). q.member ≡ start + k / n) last.1 (subst (λ i. t.member ≡ start + i / n) (sym place) next)
 
--- the value that an expression has in a case
-abbrev pub OfCase : Unfolding → Scope → List Path → Resolved → Mode → ℕ → Value → Type 0
-OfCase u scope paths e m i v =
-    (base : Env) × (env : Env) × (p : Path) × (slice_get paths i ≡ Some p) × MeetsIn (chosen m (path_of p)) u base scope env e
-    × (v ≡ resolved_value e env)
+-- the value that an expression, or its part, has in a case
+abbrev pub OfCase : Unfolding → Scope → List Path → Resolved → Trail → Mode → ℕ → Value → Type 0
+OfCase u scope paths e trail m i v =
+    (base : Env) × (p : Path) × (slice_get paths i ≡ Some p) × Reaches (chosen m (path_of p)) u base scope e trail v
 
 -- what holds of an expression in a case holds of it where the path has a number more
 pub meets_further : (m : Mode) (old new : List ℕ) (level number : ℕ) (u : Unfolding) (base : Env) (scope : Scope) (env : Env) (e : Resolved) →
@@ -108,11 +109,12 @@ draw_more paths draw member i own h at here = record { each = λ m j p s v insid
         here m s v (subst (λ (r : Path). IsDrawn (chosen m (path_of r)) draw s v) same drawn)
 
 -- what is known for a path is so in the case that has it
-pub told_here : (m : Mode) (u : Unfolding) (scope : Scope) (e : Resolved) (paths told : List Path) (each : Each) (i k : ℕ) (own : Path) (v : Value) →
-    IsTold u scope e told each → OfCase u scope paths e m i v → slice_get paths i ≡ Some own → slice_get told k ≡ Some own → KnownFor m each k v
-told_here m u scope e paths told each i k own v h of here at =
-    let same : own ≡ of.2 = same_Some own of.2 (sym here ∙ of.3) in
-    subst (KnownFor m each k) (sym of.5) (h.holds m of.0 of.1 k of.2 (subst (λ (p : Path). slice_get told k ≡ Some p) same at) of.4)
+pub told_here : (m : Mode) (u : Unfolding) (scope : Scope) (e : Resolved) (trail : Trail) (paths told : List Path) (each : Each) (i k : ℕ) (own : Path)
+    (v : Value) → IsTold u scope e trail told each → OfCase u scope paths e trail m i v → slice_get paths i ≡ Some own → slice_get told k ≡ Some own →
+    KnownFor m each k v
+told_here m u scope e trail paths told each i k own v h of here at =
+    let same : own ≡ of.1 = same_Some own of.1 (sym here ∙ of.2) in
+    h.holds m of.0 k of.1 v (subst (λ (p : Path). slice_get told k ≡ Some p) same at) of.3
 
 -- a number in rounds says that its round is one of them
 within_round : (n i j k : ℕ) → i + n * j < n * k → j < k

@@ -1,6 +1,7 @@
 -- What is known of an expression for several values of a variable at once.
 
 use Rattle.std.specs.Prelude.{ℕ, ◌≡◌, ◌+◌, ◌*◌, ◌<◌, Option, Some, None, List, length, map, sum_by, slice_get}
+use Rattle.c2po_unfold.specs.declared.along.Trail.{Trail}
 use Rattle.c2po_unfold.specs.declared.each.Each.{Each}
 use Rattle.c2po_unfold.specs.declared.each.Each.TheVariants.{Same, Own}
 use Rattle.c2po_unfold.specs.declared.known.Ahead.{Ahead}
@@ -15,6 +16,7 @@ use Rattle.c2po_unfold.specs.declared.scope.Scope.{Scope}
 use Rattle.c2po_unfold.specs.declared.summary.Summary.{Summary}
 use Rattle.c2po_unfold.specs.declared.unfolding.Unfolding.{Unfolding}
 use Rattle.c2po_unfold.specs.declared.values.Stored.{Stored}
+use Rattle.c2po_unfold.specs.Along.{Reaches}
 use Rattle.c2po_unfold.specs.Bodies.{AreOfBody, IsOfBody, MeetsBody, MeetsBodyIn}
 use Rattle.c2po_unfold.specs.Cases.{IsMember, chosen, path_of}
 use Rattle.c2po_unfold.specs.Covering.{Mode, Says}
@@ -71,10 +73,11 @@ pub record IsDrawnAhead (u : Unfolding) (scope within : Scope) (q : Quantified) 
 abbrev pub HoldsFor : Unfolding → List Stored → ℕ → Value → Type 0
 HoldsFor u ss i v = (s : Stored) × (slice_get ss i ≡ Some s) × Holds u s v
 
--- what is known of an expression in the cases of these paths is so
-pub record IsTold (u : Unfolding) (scope : Scope) (e : Resolved) (paths : List Path) (each : Each) : Type 0 where
-  pub holds : (m : Mode) (base env : Env) (i : ℕ) (p : Path) → slice_get paths i ≡ Some p
-      → MeetsIn (chosen m (path_of p)) u base scope env e → KnownFor m each i (resolved_value e env)
+-- what is known of an expression, or of its part, in the cases of these paths is so
+pub record IsTold (u : Unfolding) (scope : Scope) (e : Resolved) (trail : Trail) (paths : List Path) (each : Each) :
+    Type 0 where
+  pub holds : (m : Mode) (base : Env) (i : ℕ) (p : Path) (v : Value) → slice_get paths i ≡ Some p
+      → Reaches (chosen m (path_of p)) u base scope e trail v → KnownFor m each i v
 
 -- a value is that of the member with a number
 abbrev pub HasMember : Mode → Unfolding → List Member → ℕ → Value → Type 0
@@ -93,6 +96,12 @@ pub record AreStored (u : Unfolding) (values : List Stored) (n : ℕ) (old new :
   pub kept : (k : ℕ) (x : Member) → slice_get old k ≡ Some x → slice_get new k ≡ Some x
   pub there : (m : Mode) (i : ℕ) (s : Stored) (v : Value) → i < n → slice_get values i ≡ Some s → Holds u s v
       → (x : Member) × (slice_get new (length old + i) ≡ Some x) × IsMember m u x v
+
+-- after what is known in other cases there is what is known in each of n more
+pub record IsPut (each : Each) (n : ℕ) (old new : List Summary) : Type 0 where
+  pub count : length new ≡ length old + n
+  pub kept : (k : ℕ) (s : Summary) → slice_get old k ≡ Some s → slice_get new k ≡ Some s
+  pub there : (i : ℕ) → i < n → (s : Summary) × (slice_get new (length old + i) ≡ Some s) × (known_at each i ≡ Some s)
 
 -- members say what is known of the first t expressions in each of these cases, one expression after the other
 pub record AreListed (u : Unfolding) (scope : Scope) (paths : List Path) (es : List Resolved) (t : ℕ)

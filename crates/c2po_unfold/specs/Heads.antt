@@ -1,12 +1,16 @@
 -- What names and picked fields lead to.
 
-use Rattle.std.specs.Prelude.{ℕ, ◌≡◌, ⊤, Bool, true, false, Some, List, [], slice_get}
+use Rattle.std.specs.Prelude.{ℕ, ◌≡◌, ⊤, Bool, true, false, Option, Some, None, List, [], slice_get}
 use Rattle.c2po_ast.specs.Shape as tree
 use Rattle.c2po_ast.specs.Shape.{Shape}
 use Rattle.c2po_unfold.specs.declared.scope.Led.{Led}
 use Rattle.c2po_unfold.specs.declared.scope.Led.TheVariants as led
 use Rattle.c2po_unfold.specs.declared.scope.Head.{Head}
 use Rattle.c2po_unfold.specs.declared.scope.Head.TheVariants as head
+use Rattle.c2po_unfold.specs.declared.drawing.Here.{Here}
+use Rattle.c2po_unfold.specs.declared.drawing.PartOf.{PartOf}
+use Rattle.c2po_unfold.specs.declared.drawing.SetsIn.{SetsIn}
+use Rattle.c2po_unfold.specs.declared.drawing.SetsIn.TheVariants as sets
 use Rattle.c2po_unfold.specs.declared.drawing.Shared.{Shared}
 use Rattle.c2po_unfold.specs.declared.drawing.Shared.TheVariants as shared
 use Rattle.c2po_unfold.specs.declared.values.Location.TheVariants.{Parts as PartsAt}
@@ -14,11 +18,11 @@ use Rattle.c2po_unfold.specs.declared.values.Stored.{Stored}
 use Rattle.c2po_unfold.specs.declared.values.Whole.TheVariants as whole
 use Rattle.c2po_unfold.specs.declared.unfolding.Unfolding.{Unfolding}
 use Rattle.c2po_unfold.specs.Values.{Value, leaf, structure, set, built, grouped, picked}
-use Rattle.c2po_unfold.specs.Environment.{Env}
+use Rattle.c2po_unfold.specs.Environment.{Env, fields_in}
 use Rattle.c2po_unfold.specs.Holding.{Holds, HoldAll}
-use Rattle.c2po_unfold.specs.Resolving.{AllResolved, IsResolved, is_operation, resolved_value, resolved_values}
+use Rattle.c2po_unfold.specs.Resolving.{AllResolved, IsPlace, IsResolved, is_operation, resolved_value, resolved_values}
 use Rattle.c2po_unfold.specs.declared.scope.Scope.{Scope, Top, Open', Held', Covered', Varied', Drawn'}
-use Rattle.c2po_unfold.specs.Scopes.{FitsIn, names_of}
+use Rattle.c2po_unfold.specs.Scopes.{FitsIn, MeetsIn, names_of}
 use Rattle.c2po_unfold.specs.Cases.{Case, only, mode_in, IsDrawn, IsVaried}
 use Rattle.c2po_unfold.specs.Covering.{Mode}
 use Rattle.c2po_unfold.specs.Summaries.{IsOfLeaf}
@@ -31,6 +35,7 @@ IsLed c u base (led.Open scope e) v = (env : Env) × FitsIn c u base scope.now e
 IsLed c u base (led.Held s i) v = Holds u s v
 IsLed c u base (led.Covered s) v = IsOfLeaf (mode_in c) s.now v
 IsLed c u base (led.Varied choice) v = IsVaried c u choice v
+IsLed c u base led.Drawn v = ⊤
 
 -- the innermost of these variables has a value in a case
 abbrev pub IsEntry : Case → Unfolding → Env → Scope → Value → Type 0
@@ -88,7 +93,31 @@ HeadsIn c u base (head.Varied choice) v = IsVaried c u choice v
 abbrev pub Heads : Mode → Unfolding → Env → Head → Value → Type 0
 Heads m = HeadsIn (only m)
 
--- what an expression leads to in several cases has a value in one of them; nothing is said where it differs
+-- a field of a value is this one in a case
+pub record IsPartOf (c : Case) (u : Unfolding) (base : Env) (part : PartOf) (whole v : Value) : Type 0 where
+  pub env : Env
+  pub fits : FitsIn c u base part.scope.now env
+  pub place : IsPlace base (names_of part.scope.now) part.field.now part.hint.now
+  pub is : v ≡ picked (λ y. fields_in (env y)) part.field.now whole
+
+-- the same of a field, if there is one
+abbrev pub IsPartIn : Case → Unfolding → Env → Option PartOf → (whole v : Value) → Type 0
+IsPartIn c u base None w v = v ≡ w
+IsPartIn c u base (Some part) w v = IsPartOf c u base part w v
+
+-- an expression, or a field of it, has a value in a case
+abbrev pub IsHere : Case → Unfolding → Env → Here → Value → Type 0
+IsHere c u base here v = (env : Env) × MeetsIn c u base here.scope.now env here.expr.now
+    × IsPartIn c u base here.part (resolved_value here.expr.now env) v
+
+-- what an expression leads to in several cases has a value in one of them
 abbrev pub IsShared : Case → Unfolding → Env → Shared → Value → Type 0
 IsShared c u base (shared.Head h) v = HeadsIn c u base h v
-IsShared c u base (shared.Apart draw) v = ⊤
+IsShared c u base (shared.Apart here draw) v = IsHere c u base here v
+
+-- the set of a quantifier has a value in the case with a number; nothing is said of one that isn't found in all cases
+abbrev pub AreSets : Case → Unfolding → Env → SetsIn → ℕ → Value → Type 0
+AreSets c u base (sets.Same h) i v = HeadsIn c u base h v
+AreSets c u base (sets.Held ss) i v = (s : Stored) × (slice_get ss.items i ≡ Some s) × Holds u s v
+AreSets c u base (sets.Drawn here draw) i v = IsHere c u base here v
+AreSets c u base sets.Led i v = ⊤

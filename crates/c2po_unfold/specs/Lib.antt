@@ -15,6 +15,7 @@ pub mod Faults
 pub mod Parts
 pub mod Bodies
 pub mod Ahead
+pub mod Along
 pub mod Lanes
 pub mod Fields
 pub use Rattle.count_sets.specs.Counting

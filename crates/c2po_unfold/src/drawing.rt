@@ -5,12 +5,14 @@
 
 ghost use Rattle.std.specs.Prelude.{◌≡◌, ℕ, true, Some, IfOk, IfSome, length, slice_get};
 ghost use Rattle.c2po_unfold.specs.declared.path.Path.{Path as CasePath};
-ghost use Rattle.c2po_unfold.specs.Cases.{IsDrawn, IsVaried, chosen, path_of};
+ghost use Rattle.c2po_unfold.specs.Ahead.{HoldsFor, RowsLead};
+ghost use Rattle.c2po_unfold.specs.declared.values.Stored.{Stored as StoredValue};
+ghost use Rattle.c2po_unfold.specs.Cases.{Case, IsDrawn, IsVaried, chosen, path_of};
 ghost use Rattle.c2po_unfold.specs.Covering.{Mode};
-ghost use Rattle.c2po_unfold.specs.Environment.{Env, fields_in};
-ghost use Rattle.c2po_unfold.specs.Heads.{HeadsIn, IsEntry, IsShared};
+ghost use Rattle.c2po_unfold.specs.Environment.{Env, fields_in, value_in};
+ghost use Rattle.c2po_unfold.specs.Heads.{AreSets, HeadsIn, IsEntry, IsHere, IsPartOf, IsShared};
 ghost use Rattle.c2po_unfold.specs.Holding.{Holds};
-ghost use Rattle.c2po_unfold.specs.Resolving.{IsPlace, resolved_value};
+ghost use Rattle.c2po_unfold.specs.Resolving.{IsBound, IsPlace, resolved_value};
 ghost use Rattle.c2po_unfold.specs.Scopes.{FitsIn, MeetsIn, names_of};
 ghost use Rattle.c2po_unfold.specs.Values.{Value, members, picked};
 ghost use Rattle.c2po_unfold.specs.declared.unfolding.Unfolding.{Unfolding as Table};
@@ -19,23 +21,97 @@ use crate::Unfolding;
 use crate::each::Stop;
 use crate::fault::deeper;
 use crate::path::{Cases, Path};
-use crate::resolved::{Hint, Resolved};
-use crate::scope::{Choice, Draw, Head, Scope, Site};
+use crate::resolved::{Hint, Resolved, Row};
+use crate::scope::{Choice, Draw, Head, Led, Scope, Site};
 use crate::together::FEW;
 use crate::values::Stored;
 use mltl_base::Name;
+
+/// A field of a struct's value, with the variables around it.
+#[derive(Clone, Copy)]
+pub(crate) struct PartOf<'a> {
+    pub scope: &'a Scope<'a>,
+    pub field: &'a Name,
+    pub hint: &'a Hint,
+}
+
+/// An expression, with the variables around it, or a field of it.
+#[derive(Clone, Copy)]
+pub(crate) struct Here<'a> {
+    pub scope: &'a Scope<'a>,
+    pub expr: &'a Resolved,
+    pub part: Option<PartOf<'a>>,
+}
+
+impl<'a> Here<'a> {
+    /// A field of this, or `whole` where this is a field itself.
+    fn part(self, part: PartOf<'a>, whole: Here<'a>) -> Here<'a>
+        ensures { (c : Case) (u : Table) (base : Env) (v w : Value)
+            → IsHere c u base self.entry v → IsPartOf c u base part.entry v w
+            → IsHere c u base whole.entry w → IsHere c u base result w }
+    {
+        match self.part {
+            None => Here {
+                part: Some(part),
+                ..self
+            },
+            Some(_) => whole,
+        }
+    }
+}
+
+/// What the set of a quantifier is in several cases.
+#[derive(Drop)]
+pub(crate) enum SetsIn<'a> {
+    /// The same in all of them.
+    Same(Head<'a>),
+    /// The stored set of each case.
+    Held(Vec<Stored>),
+    /// A set that isn't stored: another one with what cases draw, from here on.
+    Drawn(Here<'a>, Draw<'a>),
+    /// Another one from case to case.
+    Led,
+}
+
+impl<'a> SetsIn<'a> {
+    /// These stored sets, one for each case.
+    fn stored(sets: Vec<Stored>) -> SetsIn<'a>
+        ensures { (c : Case) (u : Table) (base : Env) (i : ℕ) (v : Value)
+            → HoldsFor u sets.items i v → AreSets c u base result i v }
+    {
+        match the_stored(sets.as_slice()) {
+            Some(stored) => SetsIn::Same(Head::Held(stored)),
+            None => SetsIn::Held(sets),
+        }
+    }
+}
+
+/// The stored value that all of these are, if they are the same.
+fn the_stored(all: &[Stored]) -> Option<Stored>
+    ensures { (i : ℕ) (s : StoredValue) → slice_get all.now i ≡ Some s
+        → IfSome result (λ r. r ≡ s) }
+{
+    let first = all.get(0)?;
+    for stored in all {
+        if !first.is(*stored) {
+            return None;
+        }
+    }
+    Some(*first)
+}
 
 /// What an expression leads to in several cases.
 #[derive(Clone, Copy)]
 pub(crate) enum Shared<'a> {
     /// The same in all of them.
     Head(Head<'a>),
-    /// It differs, as the members do that they draw.
-    Apart(Draw<'a>),
+    /// As far as that is the same, it leads here; from here on it differs, as the members do that cases draw.
+    Apart(Here<'a>, Draw<'a>),
 }
 
 impl<'a> Draw<'a> {
     /// Whether a case draws the member with this number.
+    #[inline(always)]
     fn draws(self, path: &Path, member: usize) -> bool
         ensures { (m : Mode) (s v : Value) → result ≡ true
             → IsDrawn (chosen m (path_of path.now)) self.entry s v
@@ -48,11 +124,14 @@ impl<'a> Draw<'a> {
     }
 
     /// The number of the member that all of these cases draw, if it is the same.
-    fn agreed(self, paths: &[Path]) -> Option<usize>
+    pub(crate) fn agreed(self, paths: &[Path]) -> Option<usize>
         ensures { (m : Mode) (i : ℕ) (p : CasePath) (s v : Value) → slice_get paths.now i ≡ Some p
             → IsDrawn (chosen m (path_of p)) self.entry s v
             → IfSome result (λ j. slice_get (members s) j ≡ Some v) }
     {
+        if let Draw::First = self {
+            return Some(0);
+        }
         let member = self.member(paths.get(0)?)?;
         for path in paths {
             if !self.draws(path, member) {
@@ -64,10 +143,13 @@ impl<'a> Draw<'a> {
 
     /// Whether two cases draw the same member; where none is listed, whether they have the same number at the level.
     pub(crate) fn joins(self, path: &Path, other: &Path) -> bool {
-        let (Some(i), Some(j)) = (path.at(self.level), other.at(self.level)) else {
+        let Draw::Turned { turns, level } = self else {
+            return true;
+        };
+        let (Some(i), Some(j)) = (path.at(level), other.at(level)) else {
             return false;
         };
-        match (self.turns.get(i), self.turns.get(j)) {
+        match (turns.get(i), turns.get(j)) {
             (Some(own), Some(other)) => own.member == other.member,
             _ => i == j,
         }
@@ -76,7 +158,7 @@ impl<'a> Draw<'a> {
 
 impl<'a> Choice<'a> {
     /// The number that all of these cases have at the level, if it is the same.
-    fn agreed(self, paths: &[Path]) -> Option<usize>
+    pub(crate) fn agreed(self, paths: &[Path]) -> Option<usize>
         ensures { (i : ℕ) (p : CasePath) → slice_get paths.now i ≡ Some p
             → IfSome result (λ number. slice_get (path_of p) self.entry.level ≡ Some number) }
     {
@@ -90,7 +172,7 @@ impl<'a> Choice<'a> {
     }
 
     /// The stored value that each case with this number at the level chooses, if it is listed as one.
-    fn stored(self, number: usize) -> Option<Stored>
+    pub(crate) fn stored(self, number: usize) -> Option<Stored>
         ensures { (m : Mode) (u : Table) (p : CasePath) (v : Value)
             → slice_get (path_of p) self.entry.level ≡ Some number
             → IsVaried (chosen m (path_of p)) u self.entry v → IfSome result (λ s. Holds u s v) }
@@ -100,20 +182,17 @@ impl<'a> Choice<'a> {
         Some(stored)
     }
 
-    /// The stored value that all of these cases choose.
-    fn held(self, paths: &[Path]) -> Result<Shared<'a>, Stop>
-        ensures { (m : Mode) (u : Table) (base : Env) (i : ℕ) (p : CasePath) (v : Value)
-            → slice_get paths.now i ≡ Some p → IsVaried (chosen m (path_of p)) u self.entry v
-            → IfOk result (λ r. IsShared (chosen m (path_of p)) u base r v) }
-    {
-        let Some(number) = self.agreed(paths) else {
-            return Ok(Shared::Apart(Draw {
-                turns: &[],
-                level: self.level,
-            }));
-        };
-        let stored = self.stored(number).ok_or(Stop::Alone)?;
-        Ok(Shared::Head(Head::Held(stored)))
+    /// Whether it is listed, and cases choose different members.
+    fn differs(self, paths: &[Path]) -> bool {
+        self.is_listed() && self.agreed(paths).is_none()
+    }
+
+    /// The same choice, as far as cases differ in it.
+    pub(crate) fn draw(self) -> Draw<'a> {
+        Draw::Turned {
+            turns: &[],
+            level: self.level,
+        }
     }
 }
 
@@ -133,20 +212,22 @@ impl Unfolding {
             (λ r. IsShared (chosen m (path_of p)) self.now base r (resolved_value e.now env)) }
     {
         let levels = deeper(levels)?;
+        let here = Here {
+            scope,
+            expr: e,
+            part: None,
+        };
         match e {
             Resolved::Known(_, stored) | Resolved::Found(_, stored) => {
                 Ok(Shared::Head(Head::Held(*stored)))
             }
-            Resolved::Variable(name) => self.entry_in(levels, paths, scope.entry(name)),
-            Resolved::Column(e, ..) => self.head_in(levels, paths, scope, e),
+            Resolved::Variable(name) => self.entry_in(levels, paths, here, scope.entry(name)),
+            Resolved::Column(whole, name, rows) => {
+                self.column_in(levels, paths, here, whole, name, rows.as_slice())
+            }
             Resolved::Part(whole, field, hint) => {
-                if let Some((within, part)) = self.written_part(scope, whole, field, hint) {
-                    return self.head_in(levels, paths, within, part);
-                }
-                match self.head_in(levels, paths, scope, whole)? {
-                    Shared::Head(whole) => self.part_in(levels, paths, scope, whole, field, hint),
-                    Shared::Apart(draw) => Ok(Shared::Apart(draw)),
-                }
+                let part = PartOf { scope, field, hint };
+                self.field_in(levels, paths, e, whole, part)
             }
             Resolved::Build(name, parts) => {
                 Ok(Shared::Head(Head::Struct(scope, e, name, parts.as_slice())))
@@ -158,16 +239,87 @@ impl Unfolding {
         }
     }
 
+    /// What a column leads to in the cases of these paths, or the variable's field that it is of.
+    #[cycle(drawing)]
+    fn column_in<'a>(
+        &self,
+        levels: u32,
+        paths: &[Path],
+        here: Here<'a>,
+        whole: &'a Resolved,
+        name: &Name,
+        rows: &[Row],
+    ) -> Result<Shared<'a>, Stop>
+        ensures { (m : Mode) (base env : Env) (i : ℕ) (p : CasePath)
+            → slice_get paths.now i ≡ Some p
+            → MeetsIn (chosen m (path_of p)) self.now base here.entry.scope.now env whole.now
+            → IsHere (chosen m (path_of p)) self.now base here.entry (resolved_value whole.now env)
+            → IsBound (names_of here.entry.scope.now) name.now
+            → RowsLead self.now rows.now (value_in (env name.now)) (resolved_value whole.now env)
+            → IfOk result (λ r. IsShared (chosen m (path_of p)) self.now base r
+            (resolved_value whole.now env)) }
+    {
+        let levels = deeper(levels)?;
+        let led = here.scope.variable(name);
+        if let Some(found) = led.found(rows) {
+            return Ok(Shared::Head(Head::Held(found)));
+        }
+        match led {
+            Led::Varied(choice) if choice.differs(paths) => {
+                Ok(Shared::Apart(here, choice.draw()))
+            }
+            _ => self.head_in(levels, paths, here.scope, whole),
+        }
+    }
+
+    /// What a field of an expression leads to in the cases of these paths.
+    #[cycle(drawing)]
+    fn field_in<'a>(
+        &self,
+        levels: u32,
+        paths: &[Path],
+        e: &'a Resolved,
+        whole: &'a Resolved,
+        part: PartOf<'a>,
+    ) -> Result<Shared<'a>, Stop>
+        ensures { (m : Mode) (base env : Env) (i : ℕ) (p : CasePath)
+            → slice_get paths.now i ≡ Some p
+            → MeetsIn (chosen m (path_of p)) self.now base part.entry.scope.now env e.entry.now
+            → MeetsIn (chosen m (path_of p)) self.now base part.entry.scope.now env whole.entry.now
+            → IsPlace base (names_of part.entry.scope.now) part.entry.field.now part.entry.hint.now
+            → resolved_value e.entry.now env
+            ≡ picked (λ y. fields_in (env y)) part.entry.field.now (resolved_value whole.entry.now env)
+            → IfOk result (λ r. IsShared (chosen m (path_of p)) self.now base r
+            (resolved_value e.entry.now env)) }
+    {
+        let levels = deeper(levels)?;
+        let scope = part.scope;
+        if let Some((within, part)) = self.written_part(scope, whole, part.field, part.hint) {
+            return self.head_in(levels, paths, within, part);
+        }
+        let here = Here {
+            scope,
+            expr: e,
+            part: None,
+        };
+        match self.head_in(levels, paths, scope, whole)? {
+            Shared::Head(whole) => self.part_in(levels, paths, here, whole, part),
+            Shared::Apart(own, draw) => Ok(Shared::Apart(own.part(part, here), draw)),
+        }
+    }
+
     /// What a variable, the innermost of these, leads to in the cases of these paths.
     #[cycle(drawing)]
     fn entry_in<'a>(
         &self,
         levels: u32,
         paths: &[Path],
+        here: Here<'a>,
         entry: &'a Scope<'a>,
     ) -> Result<Shared<'a>, Stop>
         ensures { (m : Mode) (base : Env) (i : ℕ) (p : CasePath) (v : Value)
             → slice_get paths.now i ≡ Some p
+            → IsHere (chosen m (path_of p)) self.now base here.entry v
             → IsEntry (chosen m (path_of p)) self.now base entry.now v
             → IfOk result (λ r. IsShared (chosen m (path_of p)) self.now base r v) }
     {
@@ -185,11 +337,14 @@ impl Unfolding {
                 ..
             } => {
                 let Some(i) = draw.agreed(paths) else {
-                    return Ok(Shared::Apart(*draw));
+                    return Ok(Shared::Apart(here, *draw));
                 };
+                if let Some(member) = set.written_member(i) {
+                    return self.head_in(levels, paths, within, member);
+                }
                 match self.head_in(levels, paths, within, set)? {
-                    Shared::Head(set) => self.member_in(levels, paths, set, i),
-                    Shared::Apart(draw) => Ok(Shared::Apart(draw)),
+                    Shared::Head(set) => self.member_in(levels, paths, here, set, i),
+                    Shared::Apart(_, draw) => Ok(Shared::Apart(here, draw)),
                 }
             }
         }
@@ -201,11 +356,13 @@ impl Unfolding {
         &self,
         levels: u32,
         paths: &[Path],
+        here: Here<'a>,
         set: Head<'a>,
         i: usize,
     ) -> Result<Shared<'a>, Stop>
         ensures { (m : Mode) (base : Env) (j : ℕ) (p : CasePath) (s v : Value)
             → slice_get paths.now j ≡ Some p
+            → IsHere (chosen m (path_of p)) self.now base here.entry v
             → HeadsIn (chosen m (path_of p)) self.now base set.entry s
             → slice_get (members s) i ≡ Some v
             → IfOk result (λ r. IsShared (chosen m (path_of p)) self.now base r v) }
@@ -220,10 +377,13 @@ impl Unfolding {
                 let member = self.held_members(stored).get(i).ok_or(Stop::Alone)?;
                 Ok(Shared::Head(Head::Held(*member)))
             }
-            Head::Varied(choice) => match choice.held(paths)? {
-                Shared::Head(set) => self.member_in(levels, paths, set, i),
-                Shared::Apart(draw) => Ok(Shared::Apart(draw)),
-            },
+            Head::Varied(choice) => {
+                let Some(number) = choice.agreed(paths) else {
+                    return Ok(Shared::Apart(here, choice.draw()));
+                };
+                let set = choice.stored(number).ok_or(Stop::Alone)?;
+                self.member_in(levels, paths, here, Head::Held(set), i)
+            }
             _ => Err(Stop::Alone),
         }
     }
@@ -234,79 +394,104 @@ impl Unfolding {
         &self,
         levels: u32,
         paths: &[Path],
-        scope: &Scope<'_>,
+        here: Here<'a>,
         whole: Head<'a>,
-        field: &Name,
-        hint: &Hint,
+        part: PartOf<'a>,
     ) -> Result<Shared<'a>, Stop>
-        ensures { (m : Mode) (base env : Env) (i : ℕ) (p : CasePath) (v : Value)
+        ensures { (m : Mode) (base : Env) (i : ℕ) (p : CasePath) (v w : Value)
             → slice_get paths.now i ≡ Some p
-            → FitsIn (chosen m (path_of p)) self.now base scope.now env
-            → IsPlace base (names_of scope.now) field.now hint.now
+            → IsPartOf (chosen m (path_of p)) self.now base part.entry v w
+            → IsHere (chosen m (path_of p)) self.now base here.entry w
             → HeadsIn (chosen m (path_of p)) self.now base whole.entry v
-            → IfOk result (λ r. IsShared (chosen m (path_of p)) self.now base r
-            (picked (λ y. fields_in (env y)) field.now v)) }
+            → IfOk result (λ r. IsShared (chosen m (path_of p)) self.now base r w) }
     {
         let levels = deeper(levels)?;
         match whole {
             Head::Struct(within, _, name, parts) => {
                 let place = self
-                    .hinted_place(scope, name, field, hint)
+                    .hinted_place(part.scope, name, part.field, part.hint)
                     .ok_or(Stop::Alone)?;
                 let part = parts.get(place).ok_or(Stop::Alone)?;
                 self.head_in(levels, paths, within, part)
             }
             Head::Held(stored) => {
-                let part = self.held_part(scope, stored, field, hint);
+                let part = self.held_part(part.scope, stored, part.field, part.hint);
                 Ok(Shared::Head(Head::Held(part)))
             }
-            Head::Varied(choice) => match choice.held(paths)? {
-                Shared::Head(whole) => self.part_in(levels, paths, scope, whole, field, hint),
-                Shared::Apart(draw) => Ok(Shared::Apart(draw)),
-            },
+            Head::Varied(choice) => {
+                let Some(number) = choice.agreed(paths) else {
+                    return Ok(Shared::Apart(here, choice.draw()));
+                };
+                let whole = choice.stored(number).ok_or(Stop::Alone)?;
+                self.part_in(levels, paths, here, Head::Held(whole), part)
+            }
             _ => Err(Stop::Alone),
         }
     }
 
-    /// What a set leads to in each case, where that is the same in all of them.
-    pub(crate) fn set_in<'a>(
+    /// What an expression, or a field of it, leads to in the cases of these paths.
+    pub(crate) fn here_in<'a>(
         &self,
-        at: Site<'a>,
-        cases: Cases<'_>,
-        set: &'a Resolved,
-    ) -> Result<Head<'a>, Stop>
-        ensures { (m : Mode) (base env : Env) (i : ℕ) (p : CasePath)
-            → slice_get cases.entry.paths.now i ≡ Some p
-            → MeetsIn (chosen m (path_of p)) self.now base at.entry.scope.now env set.entry.now
-            → IfOk result
-            (λ h. HeadsIn (chosen m (path_of p)) self.now base h (resolved_value set.entry.now env)) }
+        levels: u32,
+        paths: &[Path],
+        here: Here<'a>,
+    ) -> Result<Shared<'a>, Stop>
+        ensures { (m : Mode) (base : Env) (i : ℕ) (p : CasePath) (v : Value)
+            → slice_get paths.now i ≡ Some p
+            → IsHere (chosen m (path_of p)) self.now base here.entry v
+            → IfOk result (λ r. IsShared (chosen m (path_of p)) self.now base r v) }
     {
-        let head = self.head(at.depth, at.scope, set)?;
-        let Head::Varied(_) = head else {
-            return Ok(head);
+        let found = self.head_in(levels, paths, here.scope, here.expr)?;
+        let Some(part) = here.part else {
+            return Ok(found);
         };
-        match self.head_in(at.depth, cases.paths, at.scope, set) {
-            Ok(Shared::Head(shared)) => Ok(shared),
-            _ => Ok(head),
+        match found {
+            Shared::Head(whole) => self.part_in(levels, paths, here, whole, part),
+            Shared::Apart(own, draw) => Ok(Shared::Apart(own.part(part, here), draw)),
         }
     }
 
-    /// The members that many cases draw, where a set differs with them and isn't stored.
-    pub(crate) fn drawn_apart<'a>(
+    /// What the set of a quantifier is in several cases.
+    pub(crate) fn sets_in<'a>(
         &self,
         at: Site<'a>,
         cases: Cases<'_>,
         set: &'a Resolved,
-    ) -> Option<Draw<'a>> {
-        if cases.len() <= FEW {
-            return None;
+    ) -> Result<SetsIn<'a>, Stop>
+        ensures { (m : Mode) (base env : Env) (i : ℕ) (p : CasePath)
+            → slice_get cases.entry.paths.now i ≡ Some p
+            → MeetsIn (chosen m (path_of p)) self.now base at.entry.scope.now env set.entry.now
+            → IfOk result (λ r. AreSets (chosen m (path_of p)) self.now base r i
+            (resolved_value set.entry.now env)) }
+    {
+        match self.head_in(at.depth, cases.paths, at.scope, set)? {
+            Shared::Head(Head::Varied(_)) => self.sets_apart(at, cases, set, SetsIn::Led),
+            Shared::Head(head) => Ok(SetsIn::Same(head)),
+            Shared::Apart(here, draw) => {
+                self.sets_apart(at, cases, set, SetsIn::Drawn(here, draw))
+            }
         }
-        let Ok(Shared::Apart(draw)) = self.head_in(at.depth, cases.paths, at.scope, set) else {
-            return None;
-        };
+    }
+
+    /// The stored sets of cases that differ, or what is found where they aren't stored.
+    fn sets_apart<'a>(
+        &self,
+        at: Site<'_>,
+        cases: Cases<'_>,
+        set: &Resolved,
+        found: SetsIn<'a>,
+    ) -> Result<SetsIn<'a>, Stop>
+        ensures { (m : Mode) (base env : Env) (i : ℕ) (p : CasePath)
+            → slice_get cases.entry.paths.now i ≡ Some p
+            → MeetsIn (chosen m (path_of p)) self.now base at.entry.scope.now env set.now
+            → AreSets (chosen m (path_of p)) self.now base found.entry i (resolved_value set.now env)
+            → IfOk result (λ r. AreSets (chosen m (path_of p)) self.now base r i
+            (resolved_value set.now env)) }
+    {
         match self.traced(at, cases, set) {
-            Ok(_stored) => None,
-            Err(_) => Some(draw),
+            Ok(sets) => Ok(SetsIn::stored(sets)),
+            Err(Stop::Alone) => Ok(found),
+            Err(Stop::Memory) => Err(Stop::Memory),
         }
     }
 
@@ -322,7 +507,7 @@ impl Unfolding {
                 let count = self.shared_count(&set).ok_or(Stop::Alone)?;
                 Ok(count)
             }
-            Shared::Apart(_) => Err(Stop::Alone),
+            Shared::Apart(..) => Err(Stop::Alone),
         }
     }
 

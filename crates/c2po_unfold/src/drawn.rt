@@ -7,6 +7,7 @@ ghost use Rattle.std.specs.Prelude.{◌≡◌, ◌+◌, ◌*◌, ◌<◌, ◌/�
 ghost use Rattle.c2po_unfold.specs.declared.path.Path.{Path as CasePath};
 ghost use Rattle.c2po_unfold.specs.declared.path.Turn.{Turn as CaseTurn};
 ghost use Rattle.c2po_unfold.specs.Ahead.{IsDrawnAhead, IsTold, KnownFor};
+ghost use Rattle.c2po_unfold.specs.Along.{Reaches};
 ghost use Rattle.c2po_unfold.specs.Bodies.{MeetsBodyIn};
 ghost use Rattle.c2po_unfold.specs.Cases.{IsDrawn, chosen, path_of};
 ghost use Rattle.c2po_unfold.specs.Covering.{Mode};
@@ -18,6 +19,7 @@ ghost use Rattle.c2po_unfold.specs.Summaries.{IsSummary};
 ghost use Rattle.c2po_unfold.specs.Values.{Value, connected_all, counted};
 
 use crate::Unfolding;
+use crate::along::Trail;
 use crate::drawing::Shared;
 use crate::each::{Each, Stop, add};
 use crate::fault::deeper;
@@ -89,51 +91,8 @@ impl Unfolding {
             → IfOk result (λ r. KnownFor m r i (resolved_value e.now env)) }
     {
         match self.each_traced(at, cases, e) {
-            Err(Stop::Alone) => self.each_drawn(at, cases, e, room),
+            Err(Stop::Alone) => self.each_along(at, cases, e, &Trail::End, room),
             traced => traced,
-        }
-    }
-
-    /// The same, by what it leads to in those cases that draw the same members.
-    #[cycle(each)]
-    fn each_drawn(
-        &self,
-        at: Site<'_>,
-        cases: Cases<'_>,
-        e: &Resolved,
-        room: Room,
-    ) -> Result<Each, Stop>
-        ensures { (m : Mode) (base env : Env) (i : ℕ) (p : CasePath)
-            → slice_get cases.entry.paths.now i ≡ Some p
-            → MeetsIn (chosen m (path_of p)) self.now base at.entry.scope.now env e.now
-            → IfOk result (λ r. KnownFor m r i (resolved_value e.now env)) }
-    {
-        match self.head_in(at.depth, cases.paths, at.scope, e)? {
-            Shared::Head(head) => self.each_shared(at, cases, head, room),
-            Shared::Apart(draw) => self.each_parted(at, cases, e, draw, room),
-        }
-    }
-
-    /// What is known in each case of what an expression leads to in all of them.
-    #[cycle(each)]
-    fn each_shared(
-        &self,
-        at: Site<'_>,
-        cases: Cases<'_>,
-        head: Head<'_>,
-        room: Room,
-    ) -> Result<Each, Stop>
-        ensures { (m : Mode) (base : Env) (i : ℕ) (p : CasePath) (v : Value)
-            → slice_get cases.entry.paths.now i ≡ Some p
-            → HeadsIn (chosen m (path_of p)) self.now base head.entry v
-            → IfOk result (λ r. KnownFor m r i v) }
-    {
-        match head {
-            Head::Held(stored) => Ok(Each::Same(self.held(stored))),
-            Head::Covered(summary) => Ok(Each::Same(*summary)),
-            Head::Varied(choice) => self.each_member(choice, cases),
-            Head::Leaf(scope, e) => self.each(Site { scope, ..at }, cases, e, room),
-            Head::Nothing(..) | Head::Struct(..) | Head::Set(..) => Err(Stop::Alone),
         }
     }
 
@@ -144,34 +103,61 @@ impl Unfolding {
         at: Site<'_>,
         cases: Cases<'_>,
         e: &Resolved,
+        trail: &Trail<'_>,
         draw: Draw<'_>,
         room: Room,
     ) -> Result<Each, Stop>
-        ensures { (m : Mode) (base env : Env) (i : ℕ) (p : CasePath)
+        ensures { (m : Mode) (base : Env) (i : ℕ) (p : CasePath) (v : Value)
             → slice_get cases.entry.paths.now i ≡ Some p
-            → MeetsIn (chosen m (path_of p)) self.now base at.entry.scope.now env e.now
-            → IfOk result (λ r. KnownFor m r i (resolved_value e.now env)) }
+            → Reaches (chosen m (path_of p)) self.now base at.entry.scope.now e.now trail.now v
+            → IfOk result (λ r. KnownFor m r i v) }
     {
         let at = Site {
             depth: deeper(at.depth)?,
             ..at
         };
-        let like = cases.parted(self.alloc, draw, true)?;
-        let others = cases.parted(self.alloc, draw, false)?;
+        if let Some(count) = cases.led(draw) {
+            return self.each_split(at, cases, e, trail, count, room);
+        }
+        let parted = cases.parted(self.alloc, draw)?;
+        let (like, others) = (parted.like.as_slice(), parted.others.as_slice());
         if others.is_empty() {
             return Err(Stop::Alone);
         }
-        let some = self.each_drawn(at, cases.along(like.as_slice()), e, room)?;
-        let rest = self.each_drawn(at, cases.along(others.as_slice()), e, room)?;
+        let some = self.each_along(at, cases.along(like), e, trail, room)?;
+        let rest = self.each_along(at, cases.along(others), e, trail, room)?;
         let like = Told {
-            paths: like.as_slice(),
+            paths: like,
             each: &some,
         };
         let others = Told {
-            paths: others.as_slice(),
+            paths: others,
             each: &rest,
         };
-        self.merged(at.scope, cases, e, like, others)
+        self.merged(at.scope, cases, e, trail, like, others)
+    }
+
+    /// What is known in each case of an expression, by so many first cases, and by all others.
+    #[cycle(each)]
+    fn each_split(
+        &self,
+        at: Site<'_>,
+        cases: Cases<'_>,
+        e: &Resolved,
+        trail: &Trail<'_>,
+        count: usize,
+        room: Room,
+    ) -> Result<Each, Stop>
+        ensures { (m : Mode) (base : Env) (i : ℕ) (p : CasePath) (v : Value)
+            → slice_get cases.entry.paths.now i ≡ Some p
+            → Reaches (chosen m (path_of p)) self.now base at.entry.scope.now e.now trail.now v
+            → IfOk result (λ r. KnownFor m r i v) }
+    {
+        let first = cases.paths.get(..count).ok_or(Stop::Alone)?;
+        let others = cases.paths.get(count..).ok_or(Stop::Alone)?;
+        let some = self.each_along(at, cases.along(first), e, trail, room)?;
+        let rest = self.each_along(at, cases.along(others), e, trail, room)?;
+        Each::followed(self.alloc, &some, first.len(), &rest, others.len())
     }
 
     /// What is known of an expression in each case by what is known of it in those of two lists of paths, in which the cases follow
@@ -181,15 +167,17 @@ impl Unfolding {
         scope: &Scope<'_>,
         cases: Cases<'_>,
         e: &Resolved,
+        trail: &Trail<'_>,
         like: Told<'_>,
         others: Told<'_>,
     ) -> Result<Each, Stop>
-        requires like { IsTold self.now scope.now e.now like.paths.now like.each.now }
-        requires others { IsTold self.now scope.now e.now others.paths.now others.each.now }
-        ensures { (m : Mode) (base env : Env) (i : ℕ) (p : CasePath)
+        requires like { IsTold self.now scope.now e.now trail.now like.paths.now like.each.now }
+        requires others { IsTold self.now scope.now e.now trail.now
+            others.paths.now others.each.now }
+        ensures { (m : Mode) (base : Env) (i : ℕ) (p : CasePath) (v : Value)
             → slice_get cases.entry.paths.now i ≡ Some p
-            → MeetsIn (chosen m (path_of p)) self.now base scope.now env e.now
-            → IfOk result (λ r. KnownFor m r i (resolved_value e.now env)) }
+            → Reaches (chosen m (path_of p)) self.now base scope.now e.now trail.now v
+            → IfOk result (λ r. KnownFor m r i v) }
     {
         let mut all = Vec::with_capacity(self.alloc, cases.len())?;
         let (mut i, mut j) = (0_usize, 0_usize);
@@ -232,7 +220,7 @@ impl Unfolding {
         let level = cases.level();
         let paths = cases.rounds(self.alloc, level, count)?;
         let turns = turns(self.alloc, i, count, n)?;
-        let draw = Draw {
+        let draw = Draw::Turned {
             turns: turns.as_slice(),
             level,
         };
@@ -272,56 +260,5 @@ impl Unfolding {
             outer: &*at.scope,
         };
         self.each(Site { scope, ..at }, cases, bodies.body, room)
-    }
-
-    /// What is known in each case of the bodies of a quantifier, joined by an operator, over a set that leads to another one from
-    /// case to case.
-    #[cycle(each)]
-    pub(crate) fn joined_apart(
-        &self,
-        at: Site<'_>,
-        cases: Cases<'_>,
-        op: LogicOp,
-        bodies: Quantified<'_>,
-        room: Room,
-    ) -> Result<Each, Stop>
-        ensures { (m : Mode) (base env : Env) (i : ℕ) (p : CasePath)
-            → slice_get cases.entry.paths.now i ≡ Some p
-            → MeetsIn (chosen m (path_of p)) self.now base at.entry.scope.now env bodies.entry.set.now
-            → MeetsBodyIn (chosen m (path_of p)) self.now base at.entry.scope.now env bodies.entry
-            → IfOk result (λ r. KnownFor m r i (connected_all op (bodies_of bodies.entry env))) }
-    {
-        match self.traced(at, cases, bodies.set) {
-            Ok(sets) => self.joined_sets(at, cases, op, bodies, sets.as_slice(), room),
-            Err(Stop::Alone) => self.joined_over(at, cases, op, bodies, Sets::Led, room),
-            Err(Stop::Memory) => Err(Stop::Memory),
-        }
-    }
-
-    /// What is known in each case of a counting quantifier over a set that leads to another one from case to case.
-    #[cycle(each)]
-    pub(crate) fn counted_apart(
-        &self,
-        at: Site<'_>,
-        cases: Cases<'_>,
-        op: CountOp,
-        number: u64,
-        bodies: Quantified<'_>,
-        room: Room,
-    ) -> Result<Each, Stop>
-        ensures { (m : Mode) (base env : Env) (i : ℕ) (p : CasePath)
-            → slice_get cases.entry.paths.now i ≡ Some p
-            → MeetsIn (chosen m (path_of p)) self.now base at.entry.scope.now env bodies.entry.set.now
-            → MeetsBodyIn (chosen m (path_of p)) self.now base at.entry.scope.now env bodies.entry
-            → IfOk result (λ r. KnownFor m r i (counted op number (bodies_of bodies.entry env))) }
-    {
-        match self.traced(at, cases, bodies.set) {
-            Ok(sets) => {
-                let sets = Sets::Held(sets.as_slice());
-                self.counted_over(at, cases, op, number, bodies, sets, room)
-            }
-            Err(Stop::Alone) => self.counted_over(at, cases, op, number, bodies, Sets::Led, room),
-            Err(Stop::Memory) => Err(Stop::Memory),
-        }
     }
 }

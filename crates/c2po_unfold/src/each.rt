@@ -12,7 +12,7 @@ ghost use Rattle.c2po_unfold.specs.declared.operators.BinaryOp.TheVariants.{Comp
 ghost use Rattle.c2po_unfold.specs.declared.scope.Head.TheVariants.{Held as HeldSet};
 ghost use Rattle.c2po_unfold.specs.declared.summary.Summary.{Summary as Found};
 ghost use Rattle.c2po_unfold.specs.declared.values.Stored.{Stored as Held};
-ghost use Rattle.c2po_unfold.specs.Ahead.{AreListed, GatheredFor, HasMember, IsAhead, IsAheadIn, IsListed, KnownFor, RowsLead, known_at};
+ghost use Rattle.c2po_unfold.specs.Ahead.{AreListed, GatheredFor, HasMember, IsAhead, IsAheadIn, IsListed, IsPut, KnownFor, RowsLead, known_at};
 ghost use Rattle.c2po_unfold.specs.Bodies.{MeetsBodyIn};
 ghost use Rattle.c2po_unfold.specs.Cases.{IsVaried};
 ghost use Rattle.c2po_unfold.specs.Covering.{Mode};
@@ -241,6 +241,44 @@ impl Each {
             Each::Same(_) => None,
             Each::Own(all) => the_same(all.as_slice()),
         }
+    }
+
+    /// Puts what is known in each of `count` cases after that of other cases.
+    fn put(&self, count: usize, all: &mut Vec<Summary>) -> Result<(), Stop>
+        ensures { OnOk result (IsPut self.now count all.old.items all.new.items) }
+    {
+        for i in 0..count {
+            let Some(known) = self.get(i) else {
+                return Err(Stop::Alone);
+            };
+            add(&mut *all, *known)?;
+        }
+        Ok(())
+    }
+
+    /// What is known in each of `count` cases, and in each of `more` cases that follow them.
+    pub(crate) fn followed(
+        alloc: Global,
+        first: &Each,
+        count: usize,
+        rest: &Each,
+        more: usize,
+    ) -> Result<Each, Stop>
+        ensures first { (m : Mode) (i : ℕ) (v : Value) → i < count → KnownFor m first.now i v
+            → IfOk result (λ r. KnownFor m r i v) }
+        ensures rest { (m : Mode) (i : ℕ) (v : Value) → i < more → KnownFor m rest.now i v
+            → IfOk result (λ r. KnownFor m r (count + i) v) }
+    {
+        if let (Each::Same(a), Each::Same(b)) = (first, rest) {
+            if a.is(b) {
+                return Ok(Each::Same(*a));
+            }
+        }
+        let total = count.checked_add(more).ok_or(Stop::Alone)?;
+        let mut all = Vec::with_capacity(alloc, total)?;
+        first.put(count, &mut all)?;
+        rest.put(more, &mut all)?;
+        Ok(Each::Own(all))
     }
 
     /// Puts what is known in each of `count` cases after other members.

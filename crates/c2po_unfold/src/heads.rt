@@ -4,7 +4,7 @@ ghost use Rattle.std.specs.Prelude.{◌≡◌, ◌∷◌, ℕ, List, MatchOption
 ghost use Rattle.std.specs.Str.{bytes_eq};
 ghost use Rattle.c2po_unfold.specs.declared.resolved.Row.{Row as Line};
 ghost use Rattle.c2po_unfold.specs.declared.fault.UnfoldFault.TheVariants.{Memory};
-ghost use Rattle.c2po_unfold.specs.Cases.{Case};
+ghost use Rattle.c2po_unfold.specs.Cases.{Case, IsDrawn};
 ghost use Rattle.c2po_unfold.specs.Covering.{Mode};
 ghost use Rattle.c2po_unfold.specs.Environment.{Env, bind, fields_in, value_in};
 ghost use Rattle.c2po_unfold.specs.Heads.{Heads, HeadsIn, HoldMembers, IsEntry, IsLed, IsOf, IsOther};
@@ -16,7 +16,7 @@ ghost use Rattle.c2po_unfold.specs.Values.{Value, members, picked};
 
 use crate::fault::deeper;
 use crate::resolved::{Hint, Resolved, Row};
-use crate::scope::{Head, Led, Scope};
+use crate::scope::{Choice, Draw, Head, Led, Scope};
 use crate::values::{Entry, Location, Stored, Whole};
 use crate::{UnfoldFault, Unfolding};
 use mltl_base::Name;
@@ -31,7 +31,7 @@ fn is_same(own: &Name, name: &Name) -> bool
 
 /// Whether names are the same, without a call where they are short.
 #[inline(always)]
-fn is_named(own: &Name, name: &Name) -> bool
+pub(crate) fn is_named(own: &Name, name: &Name) -> bool
     ensures { result ≡ bytes_eq name.now own.now }
 {
     match (name.bytes(), own.bytes()) {
@@ -75,18 +75,86 @@ impl<'a> Scope<'a> {
             Scope::Held { stored, index, .. } => Led::Held(*stored, *index),
             Scope::Covered { summary, .. } => Led::Covered(summary),
             Scope::Varied { choice, .. } => Led::Varied(*choice),
-            Scope::Drawn { draw, .. } => Led::Varied(draw.unlisted()),
+            Scope::Drawn { .. } => Led::Drawn,
+        }
+    }
+
+    /// The same variable under another name, where it is an expression or a member of a set.
+    fn renamed(&'a self, name: &'a Name, outer: &'a Scope<'a>) -> Option<Scope<'a>>
+        ensures names { IfSome result (λ r. names_of r ≡ name.now ∷ names_of outer.now) }
+        ensures fits { (c : Case) (u : Unfolding) (base env : Env) (v : Value)
+            → FitsIn c u base outer.now env → IsEntry c u base self.now v
+            → IfSome result (λ r. FitsIn c u base r (bind name.now v env)) }
+    {
+        match self {
+            Scope::Open { expr, within, .. } => Some(Scope::Open {
+                name,
+                expr,
+                within,
+                outer,
+            }),
+            Scope::Drawn {
+                set,
+                within,
+                draw,
+                ..
+            } => Some(Scope::Drawn {
+                name,
+                set,
+                within,
+                draw: *draw,
+                outer,
+            }),
+            _ => None,
+        }
+    }
+
+    /// The scope in which a variable is an expression; where that is another variable, what that one is.
+    fn passed(
+        name: &'a Name,
+        expr: &'a Resolved,
+        within: &'a Scope<'a>,
+        outer: &'a Scope<'a>,
+    ) -> Scope<'a>
+        ensures names { names_of result ≡ name.now ∷ names_of outer.now }
+        ensures fits { (c : Case) (u : Unfolding) (base inner env : Env)
+            → FitsIn c u base outer.now env → MeetsIn c u base within.now inner expr.now
+            → FitsIn c u base result (bind name.now (resolved_value expr.now inner) env) }
+    {
+        if let Resolved::Variable(own) = expr {
+            if let Some(scope) = within.entry(own).renamed(name, outer) {
+                return scope;
+            }
+        }
+        Scope::Open {
+            name,
+            expr,
+            within,
+            outer,
         }
     }
 
     /// What a column has for a variable's value, where that is one of its members.
+    #[inline(always)]
     pub(crate) fn found(&'a self, name: &Name, rows: &[Row]) -> Option<Stored>
         ensures { (c : Case) (u : Unfolding) (base env : Env) → FitsIn c u base self.now env
             → IsBound (names_of self.now) name.now → IfSome result (λ t. (r : Line) × (i : ℕ)
             × (slice_get rows.now i ≡ Some r)
             × Holds u r.member (value_in (env name.now)) × (t ≡ r.found)) }
     {
-        let Led::Held(stored, index) = self.variable(name) else {
+        self.variable(name).found(rows)
+    }
+}
+
+impl<'a> Led<'a> {
+    /// What a column has for the stored value that a variable leads to, where that is one of its members.
+    #[inline(always)]
+    pub(crate) fn found(self, rows: &[Row]) -> Option<Stored>
+        ensures { (c : Case) (u : Unfolding) (base : Env) (v : Value) → IsLed c u base self.entry v
+            → IfSome result (λ t. (r : Line) × (i : ℕ) × (slice_get rows.now i ≡ Some r)
+            × Holds u r.member v × (t ≡ r.found)) }
+    {
+        let Led::Held(stored, index) = self else {
             return None;
         };
         let row = rows.get(index)?;
@@ -247,14 +315,10 @@ impl Unfolding {
     {
         match e {
             Resolved::Known(_, stored) | Resolved::Found(_, stored) => Ok(Head::Held(*stored)),
-            Resolved::Variable(name) => match scope.entry(name) {
-                Scope::Open { expr, within, .. } => self.head(deeper(levels)?, within, expr),
-                Scope::Held { stored, .. } => Ok(Head::Held(*stored)),
-                Scope::Covered { summary, .. } => Ok(Head::Covered(summary)),
-                Scope::Varied { choice, .. } => Ok(Head::Varied(*choice)),
-                Scope::Drawn { draw, .. } => Ok(Head::Varied(draw.unlisted())),
-                Scope::Top => Ok(Head::Nothing(scope, e)),
-            },
+            Resolved::Variable(name) => {
+                let levels = deeper(levels)?;
+                self.entry_head(levels, scope, e, scope.entry(name))
+            }
             Resolved::Column(e, name, rows) => match scope.found(name, rows.as_slice()) {
                 Some(found) => Ok(Head::Held(found)),
                 None => {
@@ -273,6 +337,61 @@ impl Unfolding {
             Resolved::Build(name, parts) => Ok(Head::Struct(scope, e, name, parts.as_slice())),
             Resolved::Group(members) => Ok(Head::Set(scope, e, members.as_slice())),
             _ => Ok(Head::Leaf(scope, e)),
+        }
+    }
+
+    /// What a variable, the innermost of these, leads to.
+    #[cycle(heading)]
+    fn entry_head<'a>(
+        &self,
+        levels: u32,
+        scope: &'a Scope<'a>,
+        e: &'a Resolved,
+        entry: &'a Scope<'a>,
+    ) -> Result<Head<'a>, UnfoldFault>
+        ensures head { (c : Case) (base : Env) (v : Value) → IsEntry c self.now base entry.now v
+            → IfOk result (λ h. HeadsIn c self.now base h v) }
+        ensures memory { IfErr result (λ why. why ≡ Memory) }
+    {
+        match entry {
+            Scope::Open { expr, within, .. } => self.head(levels, within, expr),
+            Scope::Held { stored, .. } => Ok(Head::Held(*stored)),
+            Scope::Covered { summary, .. } => Ok(Head::Covered(summary)),
+            Scope::Varied { choice, .. } => Ok(Head::Varied(*choice)),
+            Scope::Drawn {
+                set,
+                within,
+                draw,
+                ..
+            } => self.drawn_head(levels, set, within, *draw),
+            Scope::Top => Ok(Head::Nothing(scope, e)),
+        }
+    }
+
+    /// What a member of a set leads to: any value where cases draw different members.
+    #[cycle(heading)]
+    fn drawn_head<'a>(
+        &self,
+        levels: u32,
+        set: &'a Resolved,
+        within: &'a Scope<'a>,
+        draw: Draw<'a>,
+    ) -> Result<Head<'a>, UnfoldFault>
+        ensures head { (c : Case) (base env : Env) (v : Value)
+            → MeetsIn c self.now base within.now env set.now
+            → IsDrawn c draw.entry (resolved_value set.now env) v
+            → IfOk result (λ h. HeadsIn c self.now base h v) }
+        ensures memory { IfErr result (λ why. why ≡ Memory) }
+    {
+        match draw {
+            Draw::Turned { level, .. } => Ok(Head::Varied(Choice {
+                members: &[],
+                level,
+            })),
+            Draw::First => {
+                let set = self.head(levels, within, set)?;
+                self.member(levels, &set, 0)
+            }
         }
     }
 
@@ -358,6 +477,7 @@ impl Unfolding {
     }
 
     /// What member `i` of a set leads to.
+    #[cycle(heading)]
     #[inline(always)]
     pub(crate) fn member<'a>(
         &self,
@@ -407,12 +527,7 @@ impl Unfolding {
                 let Some(expr) = members.get(i) else {
                     return Ok(Scope::bound(name, head, i, outer));
                 };
-                return Ok(Scope::Open {
-                    name,
-                    expr,
-                    within,
-                    outer,
-                });
+                return Ok(Scope::passed(name, expr, within, outer));
             }
         }
         Ok(Scope::bound(name, head, i, outer))

@@ -15,7 +15,8 @@ ghost use Rattle.c2po_unfold.specs.Environment.{Env};
 ghost use Rattle.c2po_unfold.specs.Lanes.{AreLanes, AreLooked, IsSetIn, IsSetOf};
 ghost use Rattle.c2po_unfold.specs.declared.lanes.Sets.TheVariants.{Held as HeldSets, Led};
 ghost use Rattle.c2po_unfold.specs.Operators.{binary_value};
-ghost use Rattle.c2po_unfold.specs.Resolving.{resolved_bodies, resolved_body};
+ghost use Rattle.c2po_unfold.specs.Resolving.{bodies_of, resolved_bodies, resolved_body};
+ghost use Rattle.c2po_unfold.specs.Scopes.{MeetsIn};
 ghost use Rattle.c2po_unfold.specs.Summaries.{IsSummary};
 ghost use Rattle.c2po_unfold.specs.Values.{Value, connected_all, counted, members};
 
@@ -156,7 +157,12 @@ impl Looked {
 
 /// What is known of joined bodies with one more after `j` others; nothing where that is too heavy.
 #[inline(always)]
-fn joined_with(joined: &Summary, next: &Summary, j: usize, room: Room) -> Result<Summary, Stop>
+pub(crate) fn joined_with(
+    joined: &Summary,
+    next: &Summary,
+    j: usize,
+    room: Room,
+) -> Result<Summary, Stop>
     ensures first { (m : Mode) (op : Connective) (w : Value) → j ≡ 0 → IsSummary m next.now w
         → IfOk result (λ s. IsSummary m s (connected_all op (w ∷ []))) }
     ensures more { (m : Mode) (op : Connective) (v w : Value) → 0 < j
@@ -203,12 +209,39 @@ impl Unfolding {
             → IfOk result
             (λ r. KnownFor m r i (connected_all op (resolved_bodies bodies.entry env s))) }
     {
+        if !bodies.is_used(at.depth) {
+            let counts = self.counts_held(sets)?;
+            return self.joined_same(at, cases, op, bodies, counts.as_slice(), room);
+        }
         let level = cases.level().saturating_sub(1);
         if self.are_single(sets) && cases.are_numbered(level) {
             self.joined_singles(at, cases, bodies, sets, level, room)
         } else {
             self.joined_over(at, cases, op, bodies, Sets::Held(sets), room)
         }
+    }
+
+    /// What is known in each case of the bodies of a quantifier, joined by an operator, over what its set leads to there.
+    #[cycle(each)]
+    pub(crate) fn joined_led(
+        &self,
+        at: Site<'_>,
+        cases: Cases<'_>,
+        op: LogicOp,
+        bodies: Quantified<'_>,
+        room: Room,
+    ) -> Result<Each, Stop>
+        ensures { (m : Mode) (base env : Env) (i : ℕ) (p : CasePath)
+            → slice_get cases.entry.paths.now i ≡ Some p
+            → MeetsIn (chosen m (path_of p)) self.now base at.entry.scope.now env bodies.entry.set.now
+            → MeetsBodyIn (chosen m (path_of p)) self.now base at.entry.scope.now env bodies.entry
+            → IfOk result (λ r. KnownFor m r i (connected_all op (bodies_of bodies.entry env))) }
+    {
+        if bodies.is_used(at.depth) {
+            return self.joined_over(at, cases, op, bodies, Sets::Led, room);
+        }
+        let counts = self.counts_led(at, cases, bodies.set)?;
+        self.joined_same(at, cases, op, bodies, counts.as_slice(), room)
     }
 
     /// What is known in each case of the only body of a quantifier, where these are the sets of the cases and the path of each
@@ -508,7 +541,7 @@ impl Unfolding {
                 self.each_body(over.at, within, over.bodies, members, over.level, over.room)
             }
             Sets::Led => {
-                let draw = Draw {
+                let draw = Draw::Turned {
                     turns: lanes.turns.as_slice(),
                     level: over.level,
                 };

@@ -6,6 +6,7 @@
 //! visited.
 #![tactic(auto)]
 
+mod along;
 mod bodies;
 pub mod counting;
 mod drawing;
@@ -18,6 +19,7 @@ pub mod heads;
 mod known;
 mod lanes;
 pub mod laws;
+mod lone;
 pub mod meanings;
 pub mod operators;
 pub mod path;
@@ -32,6 +34,7 @@ pub mod summing;
 mod together;
 mod tracing;
 pub mod unfolding;
+mod unused;
 pub mod values;
 
 pub use fact::{Tenses, first_fault};

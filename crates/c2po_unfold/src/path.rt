@@ -1,7 +1,7 @@
 //! The numbers by which a case chooses members.
 
 ghost use Rattle.std.specs.Prelude.{true, ◌≡◌, ◌+◌, ◌*◌, ◌%◌, ◌<◌, ℕ, Some, IfOk, IfSome, length, slice_get};
-ghost use Rattle.c2po_unfold.specs.Cases.{HasReached, IsReached, path_of};
+ghost use Rattle.c2po_unfold.specs.Cases.{HasBegun, HasReached, HasStarted, IsParted, IsReached, path_of};
 ghost use Rattle.c2po_unfold.specs.declared.path.Path.{Path as CasePath};
 
 use crate::each::{Stop, add};
@@ -103,6 +103,20 @@ impl Path {
         }
     }
 
+    /// The path with a number at the first level: this one if it has any.
+    fn started(&self) -> Path
+        ensures { HasBegun (path_of self.now) (path_of result) }
+    {
+        if self.count == 0 {
+            Path {
+                numbers: self.numbers,
+                count: 1,
+            }
+        } else {
+            *self
+        }
+    }
+
     /// The path with one number more, which is at this level.
     #[inline(always)]
     fn with(&self, level: usize, number: usize) -> Option<Path>
@@ -125,6 +139,13 @@ impl Path {
 pub(crate) struct Cases<'a> {
     pub paths: &'a [Path],
     pub nested: bool,
+}
+
+/// The paths of cases in two parts.
+#[derive(Drop)]
+pub(crate) struct Parted {
+    pub like: Vec<Path>,
+    pub others: Vec<Path>,
 }
 
 /// The number of the case that is in turn.
@@ -178,21 +199,53 @@ impl<'a> Cases<'a> {
         true
     }
 
-    /// The paths of those cases that draw what the first one does, or of all others.
-    pub(crate) fn parted(
-        self,
-        alloc: Global,
-        draw: Draw<'_>,
-        like: bool,
-    ) -> Result<Vec<Path>, Stop> {
-        let first = self.paths.get(0).ok_or(Stop::Alone)?;
-        let mut paths = Vec::with_capacity(alloc, self.len())?;
-        for path in self.paths {
-            if draw.joins(first, path) == like {
-                add(&mut paths, *path)?;
+    /// How many cases draw what the first one does, where they are those that come first, and others follow.
+    pub(crate) fn led(self, draw: Draw<'_>) -> Option<usize> {
+        let first = self.paths.get(0)?;
+        let mut count = 0_usize;
+        for i in 0..self.len() {
+            if draw.joins(first, self.paths.get(i)?) {
+                if count < i {
+                    return None;
+                }
+                count = i.saturating_add(1);
             }
         }
+        if count < self.len() {
+            Some(count)
+        } else {
+            None
+        }
+    }
+
+    /// The same cases, each with a number at the first level.
+    pub(crate) fn started(self, alloc: Global) -> Result<Vec<Path>, Stop>
+        ensures { (i : ℕ) (p : CasePath) → slice_get self.entry.paths.now i ≡ Some p → IfOk result
+            (λ r. HasStarted r.items p i) }
+    {
+        let mut paths = Vec::with_capacity(alloc, self.len())?;
+        for path in self.paths {
+            add(&mut paths, path.started())?;
+        }
         Ok(paths)
+    }
+
+    /// The paths of those cases that draw what the first one does, and of all others.
+    pub(crate) fn parted(self, alloc: Global, draw: Draw<'_>) -> Result<Parted, Stop>
+        ensures { (i : ℕ) (p : CasePath) → slice_get self.entry.paths.now i ≡ Some p
+            → IfOk result (λ r. IsParted p r.like.items r.others.items) }
+    {
+        let first = self.paths.get(0).ok_or(Stop::Alone)?;
+        let mut like = Vec::with_capacity(alloc, self.len())?;
+        let mut others = Vec::with_capacity(alloc, self.len())?;
+        for path in self.paths {
+            if draw.joins(first, path) {
+                add(&mut like, *path)?;
+            } else {
+                add(&mut others, *path)?;
+            }
+        }
+        Ok(Parted { like, others })
     }
 
     /// A path for each case in each of so many rounds, with its number at a level.

@@ -1,8 +1,16 @@
 //! Expressions whose names are resolved.
 
-ghost use Rattle.std.specs.Prelude.{◌≡◌};
-ghost use Rattle.c2po_unfold.specs.Resolving.{is_operation};
+ghost use Rattle.std.specs.Prelude.{◌≡◌, Some, IfSome, slice_get};
+ghost use Rattle.c2po_unfold.specs.Cases.{Case};
+ghost use Rattle.c2po_unfold.specs.Environment.{Env};
+ghost use Rattle.c2po_unfold.specs.Resolving.{is_operation, resolved_value};
+ghost use Rattle.c2po_unfold.specs.Scopes.{MeetsIn};
+ghost use Rattle.c2po_unfold.specs.Values.{Value, members};
+ghost use Rattle.c2po_unfold.specs.declared.scope.Scope.{Scope};
+ghost use Rattle.c2po_unfold.specs.declared.unfolding.Unfolding.{Unfolding};
 
+use crate::fault::deeper;
+use crate::heads::is_named;
 use crate::operators::{BinaryOp, UnaryOp};
 use crate::values::Stored;
 use mltl_base::{CountOp, LogicOp, Name};
@@ -80,5 +88,60 @@ impl Resolved {
             | Resolved::Joined(..)
             | Resolved::Counted(..) => true,
         }
+    }
+
+    /// The member with a number of a set that is written out.
+    #[inline(always)]
+    pub(crate) fn written_member(&self, i: usize) -> Option<&Resolved>
+        ensures { (c : Case) (u : Unfolding) (base : Env) (scope : Scope) (env : Env) (v : Value)
+            → MeetsIn c u base scope env self.now
+            → slice_get (members (resolved_value self.now env)) i ≡ Some v
+            → IfSome result (λ e. MeetsIn c u base scope env e.now × (v ≡ resolved_value e.now env)) }
+    {
+        match self {
+            Resolved::Group(members) => members.as_slice().get(i),
+            _ => None,
+        }
+    }
+
+    /// Whether a variable is in it, as far as that is seen within so many levels; beyond them it counts as one that is.
+    #[cycle(mentioning)]
+    fn mentions(&self, levels: u32, name: &Name) -> bool {
+        let Ok(levels) = deeper(levels) else {
+            return true;
+        };
+        match self {
+            Resolved::Number(_) | Resolved::Truth(_) | Resolved::Known(..) | Resolved::Found(..) =>
+                false,
+            Resolved::Variable(own) | Resolved::Column(_, own, _) => is_named(own, name),
+            Resolved::Build(_, es) | Resolved::Group(es) => one_mentions(
+                es.as_slice(),
+                levels,
+                name,
+            ),
+            Resolved::Part(e, ..) | Resolved::Unary(_, e) => e.mentions(levels, name),
+            Resolved::Binary(_, a, b) => a.mentions(levels, name) || b.mentions(levels, name),
+            Resolved::Joined(_, own, set, body) | Resolved::Counted(_, _, own, set, body) => {
+                set.mentions(levels, name) || !is_named(own, name) && body.mentions(levels, name)
+            }
+        }
+    }
+}
+
+/// Whether a variable is in one of these.
+#[cycle(mentioning)]
+fn one_mentions(es: &[Resolved], levels: u32, name: &Name) -> bool {
+    for e in es {
+        if e.mentions(levels, name) {
+            return true;
+        }
+    }
+    false
+}
+
+impl<'a> Quantified<'a> {
+    /// Whether the variable is probably in the body.
+    pub(crate) fn is_used(self, levels: u32) -> bool {
+        self.body.mentions(levels, self.name)
     }
 }

@@ -60,11 +60,11 @@ pub enum Scope<'a> {
 
 /// Which member of a set each case draws.
 #[derive(Clone, Copy)]
-pub struct Draw<'a> {
-    /// The member in the set, for each number that a path can have at the level.
-    pub turns: &'a [Turn],
-    /// Which number of a case's path says the member.
-    pub level: usize,
+pub enum Draw<'a> {
+    /// The first one, in each case.
+    First,
+    /// That of the turn with the number that a case has at the level.
+    Turned { turns: &'a [Turn], level: usize },
 }
 
 /// What differs from case to case: one of these members, or any value where that isn't listed.
@@ -130,24 +130,19 @@ impl<'a> Choice<'a> {
 }
 
 impl<'a> Draw<'a> {
-    /// Any value, at the same level.
-    pub(crate) fn unlisted(self) -> Choice<'a>
-        ensures { (c : Case) (u : Unfolding) (s v : Value) → IsDrawn c self.entry s v
-            → IsVaried c u result v }
-    {
-        Choice {
-            members: &[],
-            level: self.level,
-        }
-    }
-
     /// The number of the member that a case draws, if it draws one.
+    #[inline(always)]
     pub(crate) fn member(self, path: &Path) -> Option<usize>
         ensures { (m : Mode) (s v : Value) → IsDrawn (chosen m (path_of path.now)) self.entry s v
             → IfSome result (λ j. slice_get (members s) j ≡ Some v) }
     {
-        let turn = self.turns.get(path.at(self.level)?)?;
-        Some(turn.member)
+        match self {
+            Draw::First => Some(0),
+            Draw::Turned { turns, level } => {
+                let turn = turns.get(path.at(level)?)?;
+                Some(turn.member)
+            }
+        }
     }
 }
 
@@ -170,6 +165,8 @@ pub enum Led<'a> {
     Covered(&'a Summary),
     /// A value that differs from case to case.
     Varied(Choice<'a>),
+    /// A member of a set, which is looked for elsewhere.
+    Drawn,
 }
 
 /// A value as far as it is looked at: what names and picked fields lead to.

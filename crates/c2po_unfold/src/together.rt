@@ -12,10 +12,10 @@ ghost use Rattle.c2po_unfold.specs.declared.summary.Summary.{Summary as Found};
 ghost use Rattle.c2po_unfold.specs.declared.values.Stored.{Stored as Held};
 ghost use Rattle.c2po_unfold.specs.Ahead.{AreLight, AreListed, GatheredFor, HasMember, IsAhead, IsAheadIn, IsListed, IsTurnAhead, KnownFor, RowsLead, known_at};
 ghost use Rattle.c2po_unfold.specs.Bodies.{MeetsBodyIn};
-ghost use Rattle.c2po_unfold.specs.Cases.{IsVaried, chosen, path_of};
+ghost use Rattle.c2po_unfold.specs.Cases.{IsOneOf, IsVaried, chosen, path_of};
 ghost use Rattle.c2po_unfold.specs.Covering.{Mode};
 ghost use Rattle.c2po_unfold.specs.Environment.{Env, value_in};
-ghost use Rattle.c2po_unfold.specs.Heads.{HeadsIn, HoldMembers};
+ghost use Rattle.c2po_unfold.specs.Heads.{AreSets, IsHere, HeadsIn, HoldMembers};
 ghost use Rattle.c2po_unfold.specs.Holding.{Holds};
 ghost use Rattle.c2po_unfold.specs.Operators.{binary_value, unary_value};
 ghost use Rattle.c2po_unfold.specs.Resolving.{IsBound, bodies_of, resolved_bodies, resolved_body, resolved_value};
@@ -24,17 +24,20 @@ ghost use Rattle.c2po_unfold.specs.Summaries.{IsSummary};
 ghost use Rattle.c2po_unfold.specs.Values.{Value, connected_all, counted, members as members_of};
 ghost use Rattle.c2po_unfold.specs.declared.path.Path.{Path as CasePath};
 
+use crate::along::Trail;
 use crate::counting::Counting;
-use crate::drawing::Shared;
+use crate::drawing::{Here, SetsIn, Shared};
 use crate::each::{Each, Stop, add};
 use crate::fact::Fact;
 use crate::fault::deeper;
 use crate::known::Ahead;
+use crate::lanes::Sets;
+use crate::lone::{NEAR, is_near};
 use crate::operators::{BinaryOp, UnaryOp};
 use crate::path::{Cases, Path};
 use crate::resolved::{Quantified, Resolved, Row};
 use crate::room::Room;
-use crate::scope::{Choice, Head, Led, Member, Scope, Site};
+use crate::scope::{Choice, Draw, Head, Led, Member, Scope, Site};
 use crate::summary::Summary;
 use crate::values::Stored;
 use crate::{UnfoldFault, Unfolding};
@@ -190,25 +193,27 @@ impl Unfolding {
             → MeetsIn (chosen m (path_of p)) self.now base at.entry.scope.now env e.now
             → IfOk result (λ r. KnownFor m r i (resolved_value e.now env)) }
     {
+        if !cases.nested {
+            return Err(Stop::Alone);
+        }
         match e {
             Resolved::Joined(op, name, set, body) => {
-                if let Some(draw) = self.drawn_apart(at, cases, set) {
-                    return self.each_parted(at, cases, e, draw, room);
+                let bodies = Quantified { name, set, body };
+                let sets = self.sets_in(at, cases, bodies.set)?;
+                if let SetsIn::Drawn(here, draw) = &sets {
+                    return self.joined_drawn(at, cases, e, *here, *draw, *op, bodies, room);
                 }
-                self.each_joined(at, cases, *op, Quantified { name, set, body }, room)
+                self.each_joined(at, cases, *op, bodies, &sets, room)
             }
             Resolved::Counted(op, number, name, set, body) => {
-                if let Some(draw) = self.drawn_apart(at, cases, set) {
-                    return self.each_parted(at, cases, e, draw, room);
+                let bodies = Quantified { name, set, body };
+                let sets = self.sets_in(at, cases, bodies.set)?;
+                if let SetsIn::Drawn(_, draw) = &sets {
+                    if cases.len() > FEW {
+                        return self.each_parted(at, cases, e, &Trail::End, *draw, room);
+                    }
                 }
-                self.each_counted(
-                    at,
-                    cases,
-                    *op,
-                    *number,
-                    Quantified { name, set, body },
-                    room,
-                )
+                self.each_counted(at, cases, *op, *number, bodies, &sets, room)
             }
             _ => Err(Stop::Alone),
         }
@@ -315,7 +320,7 @@ impl Unfolding {
         Ok(Each::Own(all))
     }
 
-    /// What is known in each case of the bodies of a quantifier, joined by an operator.
+    /// What is known in each case of the bodies of a quantifier, joined by an operator, over these sets.
     #[cycle(each)]
     fn each_joined(
         &self,
@@ -323,31 +328,87 @@ impl Unfolding {
         cases: Cases<'_>,
         op: LogicOp,
         bodies: Quantified<'_>,
+        sets: &SetsIn<'_>,
         room: Room,
     ) -> Result<Each, Stop>
         ensures { (m : Mode) (base env : Env) (i : ℕ) (p : CasePath)
             → slice_get cases.entry.paths.now i ≡ Some p
             → MeetsIn (chosen m (path_of p)) self.now base at.entry.scope.now env bodies.entry.set.now
             → MeetsBodyIn (chosen m (path_of p)) self.now base at.entry.scope.now env bodies.entry
+            → AreSets (chosen m (path_of p)) self.now base sets.now i
+            (resolved_value bodies.entry.set.now env)
             → IfOk result (λ r. KnownFor m r i (connected_all op (bodies_of bodies.entry env))) }
     {
-        if !cases.nested {
-            return Err(Stop::Alone);
+        match sets {
+            SetsIn::Same(set) => self.joined_shared(at, cases, op, bodies, set, room),
+            SetsIn::Held(sets) => self.joined_sets(at, cases, op, bodies, sets.as_slice(), room),
+            SetsIn::Drawn(..) | SetsIn::Led => self.joined_led(at, cases, op, bodies, room),
         }
-        let set = self.set_in(at, cases, bodies.set)?;
-        if let Head::Varied(_) = set {
-            return self.joined_apart(at, cases, op, bodies, room);
+    }
+
+    /// The same over a set that leads elsewhere with what cases draw: where it has one member in each, they stay the same, and
+    /// where they are many, they are parted.
+    #[cycle(each)]
+    fn joined_drawn(
+        &self,
+        at: Site<'_>,
+        cases: Cases<'_>,
+        e: &Resolved,
+        here: Here<'_>,
+        draw: Draw<'_>,
+        op: LogicOp,
+        bodies: Quantified<'_>,
+        room: Room,
+    ) -> Result<Each, Stop>
+        ensures { (m : Mode) (base env : Env) (i : ℕ) (p : CasePath)
+            → slice_get cases.entry.paths.now i ≡ Some p
+            → MeetsIn (chosen m (path_of p)) self.now base at.entry.scope.now env e.now
+            → MeetsIn (chosen m (path_of p)) self.now base at.entry.scope.now env bodies.entry.set.now
+            → MeetsBodyIn (chosen m (path_of p)) self.now base at.entry.scope.now env bodies.entry
+            → IsHere (chosen m (path_of p)) self.now base here.entry
+            (resolved_value bodies.entry.set.now env)
+            → resolved_value e.now env ≡ connected_all op (bodies_of bodies.entry env)
+            → IfOk result (λ r. KnownFor m r i (resolved_value e.now env)) }
+    {
+        if is_near(at.depth, at.scope, bodies.set, NEAR)
+            && self.are_lone(at.depth, cases, here, draw)?
+        {
+            return self.joined_lone(at, cases, bodies, room);
         }
-        let count = self.shared_count(&set).ok_or(Stop::Alone)?;
+        if cases.len() > FEW {
+            return self.each_parted(at, cases, e, &Trail::End, draw, room);
+        }
+        self.joined_led(at, cases, op, bodies, room)
+    }
+
+    /// The same over a set that is the same in all cases.
+    #[cycle(each)]
+    fn joined_shared(
+        &self,
+        at: Site<'_>,
+        cases: Cases<'_>,
+        op: LogicOp,
+        bodies: Quantified<'_>,
+        set: &Head<'_>,
+        room: Room,
+    ) -> Result<Each, Stop>
+        ensures { (m : Mode) (base env : Env) (i : ℕ) (p : CasePath) (s : Value)
+            → slice_get cases.entry.paths.now i ≡ Some p
+            → MeetsBodyIn (chosen m (path_of p)) self.now base at.entry.scope.now env bodies.entry
+            → HeadsIn (chosen m (path_of p)) self.now base set.now s
+            → IfOk result
+            (λ r. KnownFor m r i (connected_all op (resolved_bodies bodies.entry env s))) }
+    {
+        let count = self.shared_count(set).ok_or(Stop::Alone)?;
         if count == 0 {
             return Err(Stop::Alone);
         }
         let n = cases.len();
-        let mut ahead = self.bodies_from(at, cases, bodies, &set, 0, room)?;
+        let mut ahead = self.bodies_from(at, cases, bodies, set, 0, room)?;
         let mut all = Each::formulas(self.alloc, &ahead.each, n)?;
         for i in 1..count {
             if i - ahead.start >= ahead.count {
-                ahead = self.bodies_from(at, cases, bodies, &set, i, room)?;
+                ahead = self.bodies_from(at, cases, bodies, set, i, room)?;
             }
             let from = n.checked_mul(i - ahead.start).ok_or(Stop::Alone)?;
             all = Each::joined(self.alloc, op, &all, &ahead.each, from, n, room)?;
@@ -355,7 +416,7 @@ impl Unfolding {
         Ok(all)
     }
 
-    /// What is known in each case of a counting quantifier.
+    /// What is known in each case of a counting quantifier over these sets.
     #[cycle(each)]
     fn each_counted(
         &self,
@@ -364,26 +425,53 @@ impl Unfolding {
         op: CountOp,
         number: u64,
         bodies: Quantified<'_>,
+        sets: &SetsIn<'_>,
         room: Room,
     ) -> Result<Each, Stop>
         ensures { (m : Mode) (base env : Env) (i : ℕ) (p : CasePath)
             → slice_get cases.entry.paths.now i ≡ Some p
             → MeetsIn (chosen m (path_of p)) self.now base at.entry.scope.now env bodies.entry.set.now
             → MeetsBodyIn (chosen m (path_of p)) self.now base at.entry.scope.now env bodies.entry
+            → AreSets (chosen m (path_of p)) self.now base sets.now i
+            (resolved_value bodies.entry.set.now env)
             → IfOk result (λ r. KnownFor m r i (counted op number (bodies_of bodies.entry env))) }
     {
-        if !cases.nested {
-            return Err(Stop::Alone);
+        match sets {
+            SetsIn::Same(set) => self.counted_shared(at, cases, op, number, bodies, set, room),
+            SetsIn::Held(sets) => {
+                let sets = Sets::Held(sets.as_slice());
+                self.counted_over(at, cases, op, number, bodies, sets, room)
+            }
+            SetsIn::Drawn(..) | SetsIn::Led => {
+                self.counted_over(at, cases, op, number, bodies, Sets::Led, room)
+            }
         }
-        let set = self.set_in(at, cases, bodies.set)?;
-        if let Head::Varied(_) = set {
-            return self.counted_apart(at, cases, op, number, bodies, room);
-        }
-        let members = self.shared_count(&set).ok_or(Stop::Alone)?;
+    }
+
+    /// The same over a set that is the same in all cases.
+    #[cycle(each)]
+    fn counted_shared(
+        &self,
+        at: Site<'_>,
+        cases: Cases<'_>,
+        op: CountOp,
+        number: u64,
+        bodies: Quantified<'_>,
+        set: &Head<'_>,
+        room: Room,
+    ) -> Result<Each, Stop>
+        ensures { (m : Mode) (base env : Env) (i : ℕ) (p : CasePath) (s : Value)
+            → slice_get cases.entry.paths.now i ≡ Some p
+            → MeetsBodyIn (chosen m (path_of p)) self.now base at.entry.scope.now env bodies.entry
+            → HeadsIn (chosen m (path_of p)) self.now base set.now s
+            → IfOk result
+            (λ r. KnownFor m r i (counted op number (resolved_bodies bodies.entry env s))) }
+    {
+        let members = self.shared_count(set).ok_or(Stop::Alone)?;
         if members == 0 {
             return Err(Stop::Alone);
         }
-        let all = self.each_gathered(at, cases, bodies, &set, members, room)?;
+        let all = self.each_gathered(at, cases, bodies, set, members, room)?;
         let counting = Counting {
             op,
             number,
@@ -439,14 +527,15 @@ impl Unfolding {
         ensures start { IfOk result (λ r. r.start ≡ i) }
         ensures some { IfOk result (λ r. 0 < r.count) }
     {
-        if cases.len() > FEW {
-            return self.one_body(at, cases, bodies, set, i, room);
+        if self.shared_count(set) > Some(1) && !bodies.is_used(at.depth) {
+            return self.same_bodies(at, cases, bodies, set, i, room);
         }
+        let few = cases.len() <= FEW;
         match *set {
-            Head::Held(stored) if is_followed(self.held_members(stored), i) => {
+            Head::Held(stored) if few && is_followed(self.held_members(stored), i) => {
                 self.held_bodies(at, cases, bodies, stored, i, room)
             }
-            Head::Set(within, e, members) if is_followed(members, i) => {
+            Head::Set(within, e, members) if few && is_followed(members, i) => {
                 let own = Site {
                     scope: within,
                     ..at
@@ -538,6 +627,27 @@ impl Unfolding {
             → slice_get cases.entry.paths.now i ≡ Some p → slice_get (path_of p) level ≡ Some i
             → MeetsBodyIn (chosen m (path_of p)) self.now base at.entry.scope.now env bodies.entry
             → HasMember m self.now members.now i v
+            → IfOk result (λ r. KnownFor m r i (resolved_body bodies.entry env v)) }
+    {
+        self.each_varied(at, cases, bodies, members, level, room)
+    }
+
+    /// What is known in each case of the body of a quantifier where its variable is one of these members, or any value where that
+    /// isn't listed.
+    #[cycle(each)]
+    pub(crate) fn each_varied(
+        &self,
+        at: Site<'_>,
+        cases: Cases<'_>,
+        bodies: Quantified<'_>,
+        members: &[Member],
+        level: usize,
+        room: Room,
+    ) -> Result<Each, Stop>
+        ensures { (m : Mode) (base env : Env) (i : ℕ) (p : CasePath) (v : Value)
+            → slice_get cases.entry.paths.now i ≡ Some p
+            → MeetsBodyIn (chosen m (path_of p)) self.now base at.entry.scope.now env bodies.entry
+            → IsOneOf (chosen m (path_of p)) self.now members.now level v
             → IfOk result (λ r. KnownFor m r i (resolved_body bodies.entry env v)) }
     {
         let choice = Choice {

@@ -74,7 +74,7 @@ impl Unfolding {
                 Led::Varied(choice) => self.chosen(choice, cases),
                 Led::Held(stored, _) => self.repeated(stored, cases),
                 Led::Open(scope, e) => self.traced(Site { scope, ..at }, cases, e),
-                Led::Covered(_) | Led::Nowhere => Err(Stop::Alone),
+                Led::Covered(_) | Led::Drawn | Led::Nowhere => Err(Stop::Alone),
             },
             Resolved::Column(e, name, rows) => match at.scope.variable(name) {
                 Led::Varied(choice) => self.found_in(choice, rows.as_slice(), cases),

@@ -1,11 +1,14 @@
-use Rattle.std.proofs.Common.{inl, inr, position, ap, sym, subst, refl, ◌≡◌, ◌∙◌, Some, IfOk}
+use Rattle.std.proofs.Common.{inl, inr, position, ap, sym, subst, refl, ◌≡◌, ◌∙◌, Some, IfOk, IfSome}
 use Rattle.std.specs.Str.{bytes_eq}
 use Rattle.c2po_unfold.specs.Cases.{chosen, path_of}
+use Rattle.c2po_unfold.specs.declared.values.Stored.{Stored}
 use Rattle.c2po_unfold.specs.Environment.{fields_in, value_in}
 use Rattle.c2po_unfold.specs.Heads.{HeadsIn, IsEntry, IsShared}
+use Rattle.c2po_unfold.specs.Holding.{Holds}
 use Rattle.c2po_unfold.specs.Resolving.{AllResolved, resolved_value, resolved_values}
 use Rattle.c2po_unfold.specs.Scopes.{names_of}
 use Rattle.c2po_unfold.specs.Values.{built, grouped}
+use Rattle.c2po_unfold.proofs.Columns.{column_bound, column_holds}
 use Rattle.c2po_unfold.proofs.Leading.{known_holds, found_holds}
 use Rattle.c2po_unfold.proofs.Members.{resolved_at}
 use Rattle.c2po_unfold.proofs.Parts.{member_held, member_open, picked_open}
@@ -27,10 +30,10 @@ head_in-returns-in-Build t c = λ m base env i p inside h. (
   h.fits,
   h.resolved,
   refl,
-  subst (AllResolved c.args.self.now base (names_of c.args.scope.now)) (sym c.as_slice.ensures.value)
+  subst (AllResolved c.args.self.now base (names_of c.args.scope.now)) (sym c.as_slice-in-Build.ensures.value)
       (are_resolved-Build c.args.self.now base (names_of c.args.scope.now) c.args.e.now c.in-Build.name c.in-Build.parts h.resolved c.in-Build.is),
   resolved_of-Build c.args.e.now c.in-Build.name c.in-Build.parts env c.in-Build.is
-      ∙ ap (λ es. built c.in-Build.name (resolved_values es env)) (sym c.as_slice.ensures.value),
+      ∙ ap (λ es. built c.in-Build.name (resolved_values es env)) (sym c.as_slice-in-Build.ensures.value),
 )
 
 pub head_in-returns-in-Group : goal.head_in-returns-in-Group
@@ -46,20 +49,20 @@ head_in-returns-in-Group t c = λ m base env i p inside h. (
 )
 
 pub entry_in-returns-in-Varied : goal.entry_in-returns-in-Varied
-entry_in-returns-in-Varied t c = λ m base i p v inside h. subst (λ s. IsEntry (chosen m (path_of p)) c.args.self.now base s v) c.in-Varied.is h
+entry_in-returns-in-Varied t c = λ m base i p v inside here h. subst (λ s. IsEntry (chosen m (path_of p)) c.args.self.now base s v) c.in-Varied.is h
 
 pub entry_in-returns-in-Head : goal.entry_in-returns-in-Head
-entry_in-returns-in-Head t c = λ m base i p v inside h.
+entry_in-returns-in-Head t c = λ m base i p v inside here h.
     let u = c.args.self.now in
     let k = chosen m (path_of p) in
     let g = subst (λ s. IsEntry k u base s v) c.in-Drawn.is h in
     let s = resolved_value c.in-Drawn.set.now g.0 in
     let at = c.in-Some.ensures m i p s v inside g.1 in
     let heads = subst (λ r. IsShared k u base r s) c.in-Head.is (c.in_ok-set-in-Drawn.ensures m base g.0 i p inside (record { fits = g.2; resolved = g.3 })) in
-    c.member_in.ensures m base i p s v inside heads at
+    c.member_in.ensures m base i p s v inside here heads at
 
 pub member_in-returns-in_ok-member-in-Set : goal.member_in-returns-in_ok-member-in-Set
-member_in-returns-in_ok-member-in-Set t c = λ m base j p s v inside heads q.
+member_in-returns-in_ok-member-in-Set t c = λ m base j p s v inside here heads q.
     let u = c.args.self.now in
     let k = chosen m (path_of p) in
     let es = c.in-Set.members.now in
@@ -71,7 +74,7 @@ member_in-returns-in_ok-member-in-Set t c = λ m base j p s v inside heads q.
     (c.head_in.ensures m base g.0 j p inside (record { fits = g.1; resolved = resolved_at es u base (names_of c.in-Set.within.now) c.args.i e g.4 at }))
 
 pub member_in-returns-in_ok-member-in-Held : goal.member_in-returns-in_ok-member-in-Held
-member_in-returns-in_ok-member-in-Held t c = λ m base j p s v inside heads q.
+member_in-returns-in_ok-member-in-Held t c = λ m base j p s v inside here heads q.
     let u = c.args.self.now in
     let k = chosen m (path_of p) in
     let ss = c.held_members.result.now in
@@ -80,22 +83,23 @@ member_in-returns-in_ok-member-in-Held t c = λ m base j p s v inside heads q.
     (lent_at ss c.args.i c.get-in-Held.result c.in_ok-member-in-Held.member c.get-in-Held.ensures.lookup c.in_ok-member-in-Held.ensures.ok_part) q
 
 pub part_in-returns-in_ok-part-in-Struct : goal.part_in-returns-in_ok-part-in-Struct
-part_in-returns-in_ok-part-in-Struct t c = λ m base env i p v inside f place-right heads.
+part_in-returns-in_ok-part-in-Struct t c = λ m base i p v w inside part here heads.
     let u = c.args.self.now in
     let k = chosen m (path_of p) in
     let es = c.in-Struct.parts.now in
     let e = c.in_ok-part-in-Struct.part.now in
     let place = c.in_ok-place-in-Struct.place in
+    let f = c.args.part.field.now in
     let g = subst (λ h. HeadsIn k u base h v) c.in-Struct.is heads in
     let at = lent_at es place c.get.result c.in_ok-part-in-Struct.part c.get.ensures.lookup c.in_ok-part-in-Struct.ensures.ok_part in
-    let here : Some place ≡ position (bytes_eq c.args.field.now) (fields_in (env c.in-Struct.name.now)) =
-    sym c.in_ok-place-in-Struct.ensures.ok_part ∙ c.hinted_place.ensures k base env f place-right in
-    subst (λ w. IfOk c.head_in.result (λ h. IsShared k u base h w))
-    (picked_open es g.0 c.in-Struct.name.now place e (λ y. fields_in (env y)) c.args.field.now v g.5 (sym here) at)
+    let found : Some place ≡ position (bytes_eq f) (fields_in (part.env c.in-Struct.name.now)) =
+    sym c.in_ok-place-in-Struct.ensures.ok_part ∙ c.hinted_place.ensures k base part.env part.fits part.place in
+    subst (λ x. IfOk c.head_in.result (λ h. IsShared k u base h x))
+    (picked_open es g.0 c.in-Struct.name.now place e (λ y. fields_in (part.env y)) f v g.5 (sym found) at ∙ sym part.is)
     (c.head_in.ensures m base g.0 i p inside (record { fits = g.1; resolved = resolved_at es u base (names_of c.in-Struct.within.now) place e g.4 at }))
 
 pub entry_in-returns-in-Open : goal.entry_in-returns-in-Open
-entry_in-returns-in-Open t c = λ m base i p v inside h.
+entry_in-returns-in-Open t c = λ m base i p v inside here h.
     let u = c.args.self.now in
     let k = chosen m (path_of p) in
     let g = subst (λ s. IsEntry k u base s v) c.in-Open.is h in
@@ -110,53 +114,95 @@ head_in-returns-in-Variable t c = λ m base env i p inside h.
     let x = c.in-Variable.name in
     let bound = variable_bound k u base c.args.scope.now env e x h c.in-Variable.is in
     subst (λ w. IfOk c.entry_in.result (λ r. IsShared k u base r w)) (sym (variable_same env e x c.in-Variable.is))
-    (c.entry_in.ensures m base i p (value_in (env x)) inside (c.entry.ensures k u base env h.fits bound))
+    (c.entry_in.ensures m base i p (value_in (env x)) inside (env, h, sym (variable_same env e x c.in-Variable.is)) (c.entry.ensures k u base env h.fits bound))
 
-pub head_in-returns-in-Column : goal.head_in-returns-in-Column
-head_in-returns-in-Column t c = λ m base env i p inside h.
-    let u = c.args.self.now in
-    let k = chosen m (path_of p) in
-    let e = c.args.e.now in
-    let d = c.deref.result.now in
-    subst (λ w. IfOk c.head_in.result (λ r. IsShared k u base r w)) (column_same env e _ d _ _ _ c.in-Column.is c.deref.ensures)
-    (c.head_in.ensures m base env i p inside (column_meets k u base c.args.scope.now env e _ d _ _ _ h c.in-Column.is c.deref.ensures))
-
-pub head_in-returns-in-Head : goal.head_in-returns-in-Head
-head_in-returns-in-Head t c = λ m base env i p inside h.
-    let u = c.args.self.now in
-    let k = chosen m (path_of p) in
-    let e = c.args.e.now in
-    let d = c.deref-in-Part-2.result.now in
-    let whole = whole_meets k u base c.args.scope.now env e _ d _ c.in-Part.field c.in-Part.hint h c.in-Part.is c.deref-in-Part-2.ensures in
-    let heads = subst (λ r. IsShared k u base r (resolved_value d env)) c.in-Head.is (c.in_ok-whole-in-Part.ensures m base env i p inside whole.0) in
-    subst (λ w. IfOk c.part_in.result (λ r. IsShared k u base r w))
-    (field_same env e _ d _ c.in-Part.field c.in-Part.hint c.in-Part.is c.deref-in-Part-2.ensures)
-    (c.part_in.ensures m base env i p (resolved_value d env) inside h.fits whole.1 heads)
-
-pub member_in-returns-in-Head : goal.member_in-returns-in-Head
-member_in-returns-in-Head t c = λ m base j p s v inside heads q.
-    let u = c.args.self.now in
-    let k = chosen m (path_of p) in
-    let varied = subst (λ h. HeadsIn k u base h s) c.in-Varied.is heads in
-    let held = subst (λ r. IsShared k u base r s) c.in-Head.is (c.in_ok-set-in-Varied.ensures m u base j p s inside varied) in
-    c.member_in.ensures m base j p s v inside held q
-
-pub part_in-returns-in-Head : goal.part_in-returns-in-Head
-part_in-returns-in-Head t c = λ m base env i p v inside f place-right heads.
-    let u = c.args.self.now in
-    let k = chosen m (path_of p) in
-    let varied = subst (λ h. HeadsIn k u base h v) c.in-Varied.is heads in
-    let held = subst (λ r. IsShared k u base r v) c.in-Head.is (c.in_ok-whole-in-Varied.ensures m u base i p v inside varied) in
-    c.part_in.ensures m base env i p v inside f place-right held
-
-pub head_in-returns-in-Some : goal.head_in-returns-in-Some
-head_in-returns-in-Some t c = λ m base env i p inside h.
+pub head_in-returns-in-Part : goal.head_in-returns-in-Part
+head_in-returns-in-Part t c = λ m base env i p inside h.
     let u = c.args.self.now in
     let k = chosen m (path_of p) in
     let e = c.args.e.now in
     let d = c.deref-in-Part.result.now in
     let whole = whole_meets k u base c.args.scope.now env e _ d _ c.in-Part.field c.in-Part.hint h c.in-Part.is c.deref-in-Part.ensures in
-    let part = c.in-Some.ensures k base env whole.0 whole.1 in
-    subst (λ w. IfOk c.head_in-in-Some.result (λ r. IsShared k u base r w))
-    (part.2 ∙ field_same env e _ d _ c.in-Part.field c.in-Part.hint c.in-Part.is c.deref-in-Part.ensures)
-    (c.head_in-in-Some.ensures m base part.0 i p inside part.1)
+    c.field_in.ensures m base env i p inside h whole.0 whole.1 (sym (field_same env e _ d _ c.in-Part.field c.in-Part.hint c.in-Part.is c.deref-in-Part.ensures))
+
+pub field_in-returns-in-Head : goal.field_in-returns-in-Head
+field_in-returns-in-Head t c = λ m base env i p inside h whole place same.
+    let u = c.args.self.now in
+    let k = chosen m (path_of p) in
+    let v = resolved_value c.args.whole.now env in
+    let heads = subst (λ r. IsShared k u base r v) c.in-Head.is (c.in_ok-whole.ensures m base env i p inside whole) in
+    c.part_in.ensures m base i p v (resolved_value c.args.e.now env) inside (record { env = env; fits = h.fits; place = place; is = same }) (env, h, refl) heads
+
+pub field_in-returns-in-Apart : goal.field_in-returns-in-Apart
+field_in-returns-in-Apart t c = λ m base env i p inside h whole place same.
+    let u = c.args.self.now in
+    let k = chosen m (path_of p) in
+    let v = resolved_value c.args.whole.now env in
+    let own = subst (λ r. IsShared k u base r v) c.in-Apart.is (c.in_ok-whole.ensures m base env i p inside whole) in
+    c.part.ensures k u base v (resolved_value c.args.e.now env) own (record { env = env; fits = h.fits; place = place; is = same }) (env, h, refl)
+
+pub entry_in-returns-in-Some-written_member : goal.entry_in-returns-in-Some-written_member
+entry_in-returns-in-Some-written_member t c = λ m base i p v inside here h.
+    let u = c.args.self.now in
+    let k = chosen m (path_of p) in
+    let g = subst (λ s. IsEntry k u base s v) c.in-Drawn.is h in
+    let at = c.in-Some.ensures m i p (resolved_value c.in-Drawn.set.now g.0) v inside g.1 in
+    let own = c.in-Some-written_member.ensures k u base c.in-Drawn.within.now g.0 v (record { fits = g.2; resolved = g.3 }) at in
+    subst (λ w. IfOk c.head_in-in-Some-written_member.result (λ r. IsShared k u base r w)) (sym own.1)
+    (c.head_in-in-Some-written_member.ensures m base g.0 i p inside own.0)
+
+pub member_in-returns-in_ok-set-in-Varied : goal.member_in-returns-in_ok-set-in-Varied
+member_in-returns-in_ok-set-in-Varied t c = λ m base j p s v inside here heads q.
+    let u = c.args.self.now in
+    let k = chosen m (path_of p) in
+    let varied = subst (λ h. HeadsIn k u base h s) c.in-Varied.is heads in
+    let held = subst (λ o. IfSome o (λ (r : Stored). Holds u r s)) c.in_ok-set-in-Varied.ensures.ok_part
+    (c.stored.ensures m u p s (c.in-Some.ensures j p inside) varied) in
+    c.member_in.ensures m base j p s v inside here held q
+
+pub part_in-returns-in_ok-whole-in-Varied : goal.part_in-returns-in_ok-whole-in-Varied
+part_in-returns-in_ok-whole-in-Varied t c = λ m base i p v w inside part here heads.
+    let u = c.args.self.now in
+    let k = chosen m (path_of p) in
+    let varied = subst (λ h. HeadsIn k u base h v) c.in-Varied.is heads in
+    let held = subst (λ o. IfSome o (λ (r : Stored). Holds u r v)) c.in_ok-whole-in-Varied.ensures.ok_part
+    (c.stored.ensures m u p v (c.in-Some.ensures i p inside) varied) in
+    c.part_in.ensures m base i p v w inside part here held
+
+pub part_in-returns-in-Held : goal.part_in-returns-in-Held
+part_in-returns-in-Held t c = λ m base i p v w inside part here heads.
+    let k = chosen m (path_of p) in
+    subst (Holds c.args.self.now c.held_part-part.result) (sym part.is)
+    (c.held_part-part.ensures k base part.env v part.fits part.place (subst (λ h. HeadsIn k c.args.self.now base h v) c.in-Held.is heads))
+
+pub column_in-returns-in-Some : goal.column_in-returns-in-Some
+column_in-returns-in-Some t c = λ m base env i p inside h here bound lead.
+    let u = c.args.self.now in
+    let k = chosen m (path_of p) in
+    let g = c.in-Some.ensures k u base (value_in (env c.args.name.now)) (c.variable-led.ensures k u base env h.fits bound) in
+    subst (λ s. Holds u s (resolved_value c.args.whole.now env)) (sym g.4) (lead g.1 g.0 g.2 g.3)
+
+pub head_in-returns-in-Column : goal.head_in-returns-in-Column
+head_in-returns-in-Column t c = λ m base env i p inside h.
+    let u = c.args.self.now in
+    let k = chosen m (path_of p) in
+    let scope = c.args.scope.now in
+    let e = c.args.e.now in
+    let d = c.deref.result.now in
+    let x = c.in-Column.name in
+    let same = column_same env e _ d _ _ _ c.in-Column.is c.deref.ensures in
+    subst (λ w. IfOk c.column_in.result (λ r. IsShared k u base r w)) same
+    (c.column_in.ensures m base env i p inside (column_meets k u base scope env e _ d _ _ _ h c.in-Column.is c.deref.ensures) (env, h, same)
+    (column_bound k u base scope env e _ _ x c.in-Column.rows h c.in-Column.is)
+    (λ j r at held. subst (Holds u r.found) (sym same)
+    (column_holds k u base scope env e _ _ x c.in-Column.rows c.as_slice.result.now r.found h c.in-Column.is c.as_slice.ensures.value (r, j, at, held, refl))))
+
+pub field_in-returns-in-Some : goal.field_in-returns-in-Some
+field_in-returns-in-Some t c = λ m base env i p inside h whole place same.
+    let u = c.args.self.now in
+    let k = chosen m (path_of p) in
+    let part = c.in-Some.ensures k base env whole place in
+    subst (λ w. IfOk c.head_in.result (λ r. IsShared k u base r w)) (part.2 ∙ sym same) (c.head_in.ensures m base part.0 i p inside part.1)
+
+pub column_in-returns-in_default-led : goal.column_in-returns-in_default-led
+column_in-returns-in_default-led t c = λ m base env i p inside h here bound lead. c.head_in.ensures m base env i p inside h

@@ -11,3 +11,9 @@ decreases-member_in l = l.levels
 
 abbrev pub decreases-part_in : goal.decreases-part_in
 decreases-part_in l = l.levels
+
+abbrev pub decreases-column_in : goal.decreases-column_in
+decreases-column_in l = l.levels
+
+abbrev pub decreases-field_in : goal.decreases-field_in
+decreases-field_in l = l.levels

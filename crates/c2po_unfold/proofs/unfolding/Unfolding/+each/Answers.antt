@@ -1,28 +1,34 @@
-use Rattle.std.proofs.Common.{rules, FitsSigned, w64, ℕ, ◌≡◌, ◌+◌, ◌-◌, ◌*◌, ◌<◌, ◌≤◌, List, Bor, Vec, Global, Some, IfOk, IfSome, refl, sym, subst, ap, ◌∙◌, length, get_or, slice_get, take, false, arith, []}
+use Rattle.std.proofs.Common.{inl, inr, position, rules, FitsSigned, w64, ℕ, ◌≡◌, ◌+◌, ◌-◌, ◌*◌, ◌<◌, ◌≤◌, List, Bor, Vec, Global, Some, IfOk, IfSome, refl, sym, subst, ap, ◌∙◌, length, get_or, slice_get, take, false, arith, []}
 use Rattle.std.proofs.lemmas.Int.{to_z-of_z}
 use Rattle.mltl_base.specs.declared.operators.LogicOp.TheVariants.{And}
 use Rattle.mltl_base.specs.Atoms.{constant}
 use Rattle.c2po_nodes.specs.Nodes.{number}
 use Rattle.c2po_unfold.specs.Ahead.{AreLight, GatheredFor, HasMember, HoldsFor, IsAheadIn, IsListed, KnownFor, IsGathered}
-use Rattle.c2po_unfold.specs.Cases.{chosen, path_of}
-use Rattle.c2po_unfold.specs.Environment.{bind, value_in}
+use Rattle.std.specs.Str.{bytes_eq}
+use Rattle.c2po_unfold.specs.Along.{IsAlong}
+use Rattle.c2po_unfold.specs.Cases.{IsVaried, chosen, path_of}
+use Rattle.c2po_unfold.specs.Environment.{bind, fields_in, value_in}
 use Rattle.c2po_unfold.specs.Facts.{Tells}
-use Rattle.c2po_unfold.specs.Heads.{HeadsIn, IsLed, IsShared}
-use Rattle.c2po_unfold.specs.Resolving.{IsResolved, resolved_bodies, resolved_body, resolved_value}
+use Rattle.c2po_unfold.specs.Heads.{AreSets, HeadsIn, IsEntry, IsLed}
+use Rattle.c2po_unfold.specs.Holding.{Holds}
+use Rattle.c2po_unfold.specs.Resolving.{AllResolved, IsResolved, resolved_bodies, resolved_body, resolved_value, resolved_values}
 use Rattle.c2po_unfold.specs.Scopes.{names_of}
 use Rattle.c2po_unfold.specs.Summaries.{IsSummary}
-use Rattle.c2po_unfold.specs.Values.{connected_all, counted, integer, members, truth_value}
+use Rattle.c2po_unfold.specs.Values.{built, grouped, connected_all, counted, integer, members, truth_value}
 use Rattle.c2po_unfold.proofs.Cases.{binary_meets, binary_same, body_meets, first_case, body_further, varied_here, part_meets, unary_meets, unary_same}
 use Rattle.c2po_unfold.proofs.Columns.{column_bound, column_holds}
 use Rattle.c2po_unfold.proofs.Turnwise.{light_ahead, meets_further, some_light}
 use Rattle.c2po_unfold.proofs.Loops.{bodies_by, bodies_count, body_at, joined_one, meets_within, member_at, none_left}
 use Rattle.std.proofs.lemmas.List.{take_all}
 use Rattle.c2po_unfold.proofs.Joining.{gathered_next, gathered_start, joined_all, joined_more, joined_start}
-use Rattle.c2po_unfold.proofs.Parts.{member_held}
+use Rattle.c2po_unfold.proofs.Leading.{found_holds, known_holds}
+use Rattle.c2po_unfold.proofs.Parts.{member_held, member_open, picked_open}
+use Rattle.c2po_unfold.proofs.Pathwise.{column_meets, column_same, field_same, whole_meets}
+use Rattle.c2po_unfold.proofs.Rows.{are_resolved-Build, are_resolved-Group, resolved_of-Build, resolved_of-Group}
 use Rattle.c2po_unfold.specs.Lanes.{IsHeldSet, IsSetIn}
 use Rattle.c2po_unfold.specs.declared.path.Turn.{Turn}
-use Rattle.c2po_unfold.proofs.Several.{are_listed_more, no_stored, known_more}
-use Rattle.c2po_unfold.proofs.Members.{found_at}
+use Rattle.c2po_unfold.proofs.Several.{are_listed_more, either_at, lent_at, no_stored, known_more}
+use Rattle.c2po_unfold.proofs.Members.{found_at, resolved_at}
 use Rattle.c2po_unfold.specs.declared.resolved.Resolved.{Resolved}
 use Rattle.c2po_unfold.specs.declared.scope.Member.{Member}
 use Rattle.std.proofs.lemmas.Option.{same_Some, slice_get-get_or, slice_get_within}
@@ -31,7 +37,7 @@ use Rattle.c2po_unfold.specs.declared.values.Stored.{Stored}
 use Rattle.c2po_unfold.specs.declared.summary.Summary.{Summary}
 use Rattle.c2po_unfold.proofs.Lanewise.{IsAt, OfLanes, all_bodies, gathered_lanes_more, joined_lanes_more, lanes_known}
 use Rattle.c2po_unfold.proofs.unfolding.Unfolding.+each.Goals as goal
-use Rattle.c2po_unfold.proofs.unfolding.Unfolding.+each.Goals.{each_gathered-then-i-ahead+in_ok-ahead, each_gathered-else-i-ahead, each_joined-then-i-ahead+in_ok-ahead-2, each_joined-else-i-ahead}
+use Rattle.c2po_unfold.proofs.unfolding.Unfolding.+each.Goals.{each_gathered-then-i-ahead+in_ok-ahead, each_gathered-else-i-ahead, joined_shared-then-i-ahead+in_ok-ahead-2, joined_shared-else-i-ahead}
 
 pub each_of-returns-in_ok-token-in-Number : goal.each_of-returns-in_ok-token-in-Number
 each_of-returns-in_ok-token-in-Number t c = λ m base env i p inside h.
@@ -132,9 +138,9 @@ one_body-returns t c = record {
   some = omega arith;
 }
 
-pub each_joined-loop-i-init : goal.each_joined-loop-i-init
-each_joined-loop-i-init t c =
-    joined_start c.args.self.now c.args.at.scope.now c.in_ok-set.set c.args.bodies c.args.op c.args.cases.paths.now c.in_ok-all.all c.in_ok-ahead.ahead
+pub joined_shared-loop-i-init : goal.joined_shared-loop-i-init
+joined_shared-loop-i-init t c =
+    joined_start c.args.self.now c.args.at.scope.now c.args.set.now c.args.bodies c.args.op c.args.cases.paths.now c.in_ok-all.all c.in_ok-ahead.ahead
     c.in_ok-ahead.ensures.ahead c.in_ok-ahead.ensures.start c.in_ok-ahead.ensures.some
     (λ d base s h. omega (
       arith,
@@ -143,21 +149,21 @@ each_joined-loop-i-init t c =
     ))
     (λ m j v inside h. c.in_ok-all.ensures m c.args.op j v (subst (λ n. j < n) (sym c.len-n.ensures) inside) h)
 
-pub each_joined-loop-i-preserved : goal.each_joined-loop-i-preserved
-each_joined-loop-i-preserved t c =
+pub joined_shared-loop-i-preserved : goal.joined_shared-loop-i-preserved
+joined_shared-loop-i-preserved t c =
     let u = c.args.self.now in
     let scope = c.args.at.scope.now in
-    let set = c.in_ok-set.set in
+    let set = c.args.set.now in
     let n = length c.args.cases.paths.now in
     let i = c.loop-i.i in
     let ahead = c.if-i-ahead.ahead in
     let Is : Ahead → Type 0 = λ a. IsAheadIn u scope c.args.bodies set c.args.cases.paths.now a × ((a.start ≤ i) × (i < a.start + a.count)) in
     let now : Is ahead = elim c.if-i-ahead.branch [
-      | each_joined-then-i-ahead+in_ok-ahead-2 w ↦ subst Is (sym w.ahead-is) (
+      | joined_shared-then-i-ahead+in_ok-ahead-2 w ↦ subst Is (sym w.ahead-is) (
         w.in_ok-ahead-2.ensures.ahead,
         (omega (arith, w.in_ok-ahead-2.ensures.start), omega (arith, w.in_ok-ahead-2.ensures.start, w.in_ok-ahead-2.ensures.some)),
       )
-      | each_joined-else-i-ahead w ↦ subst Is (sym w.ahead-is) (
+      | joined_shared-else-i-ahead w ↦ subst Is (sym w.ahead-is) (
         c.loop-i.invariant.is,
         (omega (arith, c.loop-i.invariant.begun), omega (arith, c.loop-i.invariant.begun, w.if-i-ahead.false)),
       )
@@ -173,10 +179,9 @@ each_joined-loop-i-preserved t c =
     ))
     (λ m j v w inside h k. c.in_ok-all-2.ensures m j v w (subst (λ k. j < k) (sym c.len-n.ensures) inside) h (subst (λ p. KnownFor m ahead.each (j + p) w) (sym from) k))
 
-pub each_joined-returns : goal.each_joined-returns
-each_joined-returns t c = λ m base env i p inside set body.
-    let k = chosen m (path_of p) in
-    joined_all c.args.self.now c.args.at.scope.now c.in_ok-set.set c.args.bodies c.args.op c.args.cases.paths.now c.loop-i.i c.loop-i.all c.loop-i.ahead
+pub joined_shared-returns : goal.joined_shared-returns
+joined_shared-returns t c = λ m base env i p s inside body heads.
+    joined_all c.args.self.now c.args.at.scope.now c.args.set.now c.args.bodies c.args.op c.args.cases.paths.now c.loop-i.i c.loop-i.all c.loop-i.ahead
     c.loop-i.invariant
     (λ d base s h. omega (
       arith,
@@ -184,7 +189,7 @@ each_joined-returns t c = λ m base env i p inside set body.
       c.loop-i.auto.i-end,
       subst (λ o. IfSome o (λ (k : ℕ). k ≡ length (members s))) c.in_ok-count.ensures.ok_part (c.shared_count.ensures d base s h),
     ))
-    m base env i p (resolved_value c.args.bodies.set.now env) inside body (c.in_ok-set.ensures m base env i p inside set)
+    m base env i p s inside body heads
 
 pub each_gathered-loop-i-init : goal.each_gathered-loop-i-init
 each_gathered-loop-i-init t c =
@@ -225,11 +230,9 @@ each_gathered-returns t c = λ m base env i p s inside body heads count.
     subst (λ vs. GatheredFor m c.loop-i.all i vs) whole
     (c.loop-i.invariant.holds m base env i p s inside (omega (arith, count, c.loop-i.auto.i-end)) body heads)
 
-pub each_counted-returns : goal.each_counted-returns
-each_counted-returns t c = λ m base env i p inside set body.
+pub counted_shared-returns : goal.counted_shared-returns
+counted_shared-returns t c = λ m base env i p s inside body heads.
     let k = chosen m (path_of p) in
-    let s = resolved_value c.args.bodies.set.now env in
-    let heads = c.in_ok-set.ensures m base env i p inside set in
     let all = resolved_bodies c.args.bodies env s in
     let count : c.in_ok-members.members ≡ length (members s) =
     subst (λ o. IfSome o (λ (n : ℕ). n ≡ length (members s))) c.in_ok-members.ensures.ok_part (c.shared_count.ensures k base s heads) in
@@ -237,10 +240,13 @@ each_counted-returns t c = λ m base env i p inside set body.
     c.counted.ensures m i all (subst (λ n. i < n) (sym c.len.ensures) (slice_get_within c.args.cases.paths.now i p inside)) bodies (omega (arith, bodies, c.if-members-eq0.false))
     (c.in_ok-all.ensures m base env i p s inside body heads count)
 
+pub each_varied-returns : goal.each_varied-returns
+each_varied-returns t c = λ m base env i p v inside h varied.
+    c.each.ensures m base (bind c.args.bodies.name.now v env) i p inside (record { fits = (v, env, varied, h.fits, refl); resolved = h.resolved })
+
 pub each_body-returns : goal.each_body-returns
 each_body-returns t c = λ m base env i p v inside there h k.
-    let varied = varied_here m (path_of p) c.args.members.now c.args.level i c.args.self.now k.0 v there k.1 k.2 in
-    c.each.ensures m base (bind c.args.bodies.name.now v env) i p inside (record { fits = (v, env, varied, h.fits, refl); resolved = h.resolved })
+    c.each_varied.ensures m base env i p v inside h (varied_here m (path_of p) c.args.members.now c.args.level i c.args.self.now k.0 v there k.1 k.2)
 
 pub listed-loop-e-preserved : goal.listed-loop-e-preserved
 listed-loop-e-preserved t c =
@@ -270,32 +276,6 @@ held_bodies-returns-clause-ahead t c = record {
       (subst (λ ms. HasMember m u ms (i + n * j) v) (sym c.as_slice-2.ensures.value) turn);
 }
 
-pub each_joined-returns-in-Varied : goal.each_joined-returns-in-Varied
-each_joined-returns-in-Varied t c = λ m base env i p inside set body. c.joined_apart.ensures m base env i p inside set body
-
-pub each_counted-returns-in-Varied : goal.each_counted-returns-in-Varied
-each_counted-returns-in-Varied t c = λ m base env i p inside set body. c.counted_apart.ensures m base env i p inside set body
-
-pub joined_apart-returns-in-Ok : goal.joined_apart-returns-in-Ok
-joined_apart-returns-in-Ok t c = λ m base env i p inside set body.
-    let v = resolved_value c.args.bodies.set.now env in
-    c.joined_sets.ensures m base env i p v inside body
-    (subst (λ ss. HoldsFor c.args.self.now ss i v) (sym c.as_slice.ensures.value) (c.in-Ok.ensures m base env i p inside set))
-
-pub joined_apart-returns-in-Err-Alone : goal.joined_apart-returns-in-Err-Alone
-joined_apart-returns-in-Err-Alone t c = λ m base env i p inside set body.
-    c.joined_over.ensures m base env i p (resolved_value c.args.bodies.set.now env) inside body (set, refl)
-
-pub counted_apart-returns-in-Ok : goal.counted_apart-returns-in-Ok
-counted_apart-returns-in-Ok t c = λ m base env i p inside set body.
-    let v = resolved_value c.args.bodies.set.now env in
-    c.counted_over.ensures m base env i p v inside body
-    (subst (λ ss. HoldsFor c.args.self.now ss i v) (sym c.as_slice.ensures.value) (c.in-Ok.ensures m base env i p inside set))
-
-pub counted_apart-returns-in-Err-Alone : goal.counted_apart-returns-in-Err-Alone
-counted_apart-returns-in-Err-Alone t c = λ m base env i p inside set body.
-    c.counted_over-in-Err-Alone.ensures m base env i p (resolved_value c.args.bodies.set.now env) inside body (set, refl)
-
 pub open_bodies-returns-clause-ahead : goal.open_bodies-returns-clause-ahead
 open_bodies-returns-clause-ahead t c = record {
   holds = λ m base env i j p v inside h within has.
@@ -306,23 +286,6 @@ open_bodies-returns-clause-ahead t c = record {
       c.in_ok-each.ensures m base env number reached.0 v there reached.2.there
       (body_further m (path_of p) (path_of reached.0) c.level-level.result number u base c.args.at.scope.now env c.args.bodies reached.2 h) has;
 }
-
-pub each_shared-returns-in-Held : goal.each_shared-returns-in-Held
-each_shared-returns-in-Held t c = λ m base i p v inside h. (
-  c.held.result,
-  refl,
-  c.held.ensures.holds m v (subst (λ d. HeadsIn (chosen m (path_of p)) c.args.self.now base d v) c.in-Held.is h),
-)
-
-pub each_shared-returns-in-Varied : goal.each_shared-returns-in-Varied
-each_shared-returns-in-Varied t c = λ m base i p v inside h.
-    c.each_member.ensures m i p v inside (subst (λ d. HeadsIn (chosen m (path_of p)) c.args.self.now base d v) c.in-Varied.is h)
-
-pub each_shared-returns-in-Leaf : goal.each_shared-returns-in-Leaf
-each_shared-returns-in-Leaf t c = λ m base i p v inside h.
-    let g = subst (λ d. HeadsIn (chosen m (path_of p)) c.args.self.now base d v) c.in-Leaf.is h in
-    subst (λ w. IfOk c.each.result (λ r. KnownFor m r i w)) (sym g.3)
-    (c.each.ensures m base g.0 i p inside (record { fits = g.1; resolved = g.2 }))
 
 pub drawn_body-returns : goal.drawn_body-returns
 drawn_body-returns t c = λ m base inner env i p v inside h set drawn.
@@ -508,13 +471,6 @@ pub joined_sets-returns-then-are_numbered : goal.joined_sets-returns-then-are_nu
 joined_sets-returns-then-are_numbered t c = λ m base env i p s there meets holds.
     c.joined_singles.ensures m c.args.op base env i p s there meets holds
 
-pub each_drawn-returns-in-Head : goal.each_drawn-returns-in-Head
-each_drawn-returns-in-Head t c = λ m base env i p inside h.
-    let k = chosen m (path_of p) in
-    let v = resolved_value c.args.e.now env in
-    c.each_shared.ensures m base i p v inside
-    (subst (λ r. IsShared k c.args.self.now base r v) c.in-Head.is (c.in_ok-head.ensures m base env i p inside h))
-
 pub light_members-returns-in-Ok : goal.light_members-returns-in-Ok
 light_members-returns-in-Ok t c =
     let es = c.args.set.now in
@@ -534,30 +490,6 @@ bodies_from-returns-in_ok-ahead-in-Some-clause-ahead t c =
     c.in-Set.members c.args.i c.in-Set.is (subst (AreLight u c.in-Set.within.now paths c.in-Set.members.now c.args.i) (sym c.as_slice-turns.ensures.value) light)
     ahead.ahead ahead.start ahead.within
 
-pub each_quantifier-returns-in_default-drawn_apart : goal.each_quantifier-returns-in_default-drawn_apart
-each_quantifier-returns-in_default-drawn_apart t c = λ m base env i p inside h.
-    let u = c.args.self.now in
-    let scope = c.args.at.scope.now in
-    let k = chosen m (path_of p) in
-    let parts = subst (IsResolved u base (names_of scope)) c.in-Joined.is h.resolved in
-    subst (λ w. IfOk c.each_joined.result (λ r. KnownFor m r i w))
-    (ap (connected_all c.in-Joined.op) (bodies_by c.in-Joined.name env _ _ _ _ c.deref-in-Joined.ensures c.deref-in-Joined-2.ensures) ∙ sym (ap (λ r. resolved_value r env) c.in-Joined.is))
-    (c.each_joined.ensures m base env i p inside
-    (part_meets k u base scope env c.args.e.now _ h (subst (IsResolved u base (names_of scope)) (sym c.deref-in-Joined.ensures) parts.0))
-    (body_meets k u base scope env _ _ c.deref-in-Joined-2.ensures h.fits parts.1))
-
-pub each_quantifier-returns-in_default-drawn_apart-2 : goal.each_quantifier-returns-in_default-drawn_apart-2
-each_quantifier-returns-in_default-drawn_apart-2 t c = λ m base env i p inside h.
-    let u = c.args.self.now in
-    let scope = c.args.at.scope.now in
-    let k = chosen m (path_of p) in
-    let parts = subst (IsResolved u base (names_of scope)) c.in-Counted.is h.resolved in
-    subst (λ w. IfOk c.each_counted.result (λ r. KnownFor m r i w))
-    (ap (counted c.in-Counted.op c.in-Counted.number) (bodies_by c.in-Counted.name env _ _ _ _ c.deref-in-Counted-2.ensures c.deref-in-Counted-3.ensures) ∙ sym (ap (λ r. resolved_value r env) c.in-Counted.is))
-    (c.each_counted.ensures m base env i p inside
-    (part_meets k u base scope env c.args.e.now _ h (subst (IsResolved u base (names_of scope)) (sym c.deref-in-Counted-2.ensures) parts.0))
-    (body_meets k u base scope env _ _ c.deref-in-Counted-3.ensures h.fits parts.1))
-
 pub light_members-returns-in-Ok-listed : goal.light_members-returns-in-Ok-listed
 light_members-returns-in-Ok-listed t c =
     let es = c.args.set.now in
@@ -565,3 +497,321 @@ light_members-returns-in-Ok-listed t c =
     let grouped = subst (λ o. IfSome o (λ (part : Bor (List Resolved)). (j : ℕ) (d : Resolved) → slice_get part.now j ≡ Some d → slice_get es (c.args.i + j) ≡ Some d))
     c.in_ok-members.ensures.ok_part c.group.ensures in
     some_light c.args.self.now c.args.at.scope.now c.args.cases.paths.now es some c.args.i c.in-Ok-listed.turns.items c.in-Ok-listed.ensures grouped
+
+pub any_body-returns : goal.any_body-returns
+any_body-returns t c = λ m base env i p v inside h.
+    let u = c.args.self.now in
+    let g = c.in_ok-paths.ensures i p inside in
+    let there = subst (λ ps. slice_get ps i ≡ Some g.0) (sym (c.along-started.ensures ∙ c.as_slice.ensures.value)) g.1 in
+    c.each_varied.ensures m base env i g.0 v there
+    (body_further m (path_of p) (path_of g.0) 0 g.2.0 u base c.args.at.scope.now env c.args.bodies g.2.1 h)
+    (g.2.0, g.2.1.there, λ x at. absurd (omega (arith, slice_get_within [] g.2.0 x at)))
+
+pub each_along-returns-in-Column : goal.each_along-returns-in-Column
+each_along-returns-in-Column t c = λ m base i p v inside h.
+    let u = c.args.self.now in
+    let k = chosen m (path_of p) in
+    let e = c.args.e.now in
+    let d = c.deref.result.now in
+    let same = column_same h.0 e _ d _ _ _ c.in-Column.is c.deref.ensures in
+    c.each_along.ensures m base i p v inside (
+      h.0,
+      column_meets k u base c.args.at.scope.now h.0 e _ d _ _ _ h.1 c.in-Column.is c.deref.ensures,
+      subst (λ w. IsAlong k u base c.args.trail.now w v) (sym same) h.2,
+    )
+
+pub each_along-returns-in-Part : goal.each_along-returns-in-Part
+each_along-returns-in-Part t c = λ m base i p v inside h.
+    let u = c.args.self.now in
+    let k = chosen m (path_of p) in
+    let e = c.args.e.now in
+    let d = c.deref-in-Part.result.now in
+    let whole = whole_meets k u base c.args.at.scope.now h.0 e _ d _ c.in-Part.field c.in-Part.hint h.1 c.in-Part.is c.deref-in-Part.ensures in
+    let same = field_same h.0 e _ d _ c.in-Part.field c.in-Part.hint c.in-Part.is c.deref-in-Part.ensures in
+    c.each_field.ensures m base h.0 i p v inside whole.0 whole.1 (subst (λ w. IsAlong k u base c.args.trail.now w v) (sym same) h.2)
+
+pub each_field-returns : goal.each_field-returns
+each_field-returns t c = λ m base env i p v inside whole place along. c.each_along.ensures m base i p v inside (env, whole, (env, whole.fits, place, along))
+
+pub each_along-returns-in-Build : goal.each_along-returns-in-Build
+each_along-returns-in-Build t c = λ m base i p v inside h.
+    let u = c.args.self.now in
+    let k = chosen m (path_of p) in
+    let names = names_of c.args.at.scope.now in
+    let e = c.args.e.now in
+    c.each_part.ensures m base h.0 i p v inside h.1.fits
+    (subst (AllResolved u base names) (sym c.as_slice.ensures.value) (are_resolved-Build u base names e c.in-Build.name c.in-Build.parts h.1.resolved c.in-Build.is))
+    (subst (λ w. IsAlong k u base c.args.trail.now w v)
+    (resolved_of-Build e c.in-Build.name c.in-Build.parts h.0 c.in-Build.is ∙ ap (λ es. built c.in-Build.name (resolved_values es h.0)) (sym c.as_slice.ensures.value)) h.2)
+
+pub each_along-returns-in-Group : goal.each_along-returns-in-Group
+each_along-returns-in-Group t c = λ m base i p v inside h.
+    let u = c.args.self.now in
+    let k = chosen m (path_of p) in
+    let names = names_of c.args.at.scope.now in
+    let e = c.args.e.now in
+    c.each_item.ensures m base h.0 i p v inside h.1.fits
+    (subst (AllResolved u base names) (sym c.as_slice-in-Group.ensures.value) (are_resolved-Group u base names e c.in-Group.members h.1.resolved c.in-Group.is))
+    (subst (λ w. IsAlong k u base c.args.trail.now w v)
+    (resolved_of-Group e c.in-Group.members h.0 c.in-Group.is ∙ ap (λ xs. grouped (resolved_values xs h.0)) (sym c.as_slice-in-Group.ensures.value)) h.2)
+
+pub each_item-returns : goal.each_item-returns
+each_item-returns t c = λ m base env i p v inside fits names along.
+    let u = c.args.self.now in
+    let k = chosen m (path_of p) in
+    let es = c.args.members.now in
+    let number = c.in-Member.number in
+    let own = c.in_ok-member.member.now in
+    let whole = grouped (resolved_values es env) in
+    let g = subst (λ d. IsAlong k u base d whole v) c.in-Member.is along in
+    let at = lent_at es number c.get.result c.in_ok-member.member c.get.ensures.lookup c.in_ok-member.ensures.ok_part in
+    c.each_along.ensures m base i p v inside (
+      env,
+      record { fits = fits; resolved = resolved_at es u base (names_of c.args.at.scope.now) number own names at },
+      subst (λ w. IsAlong k u base c.in-Member.next.now w v) (member_open es env number own whole g.0 refl at g.1) g.2,
+    )
+
+pub each_along-returns-in-End : goal.each_along-returns-in-End
+each_along-returns-in-End t c = λ m base i p v inside h.
+    let k = chosen m (path_of p) in
+    let same = subst (λ d. IsAlong k c.args.self.now base d (resolved_value c.args.e.now h.0) v) c.in-End.is h.2 in
+    subst (λ w. IfOk c.each.result (λ r. KnownFor m r i w)) same (c.each.ensures m base h.0 i p inside h.1)
+
+pub each_along-returns-in-Known : goal.each_along-returns-in-Known
+each_along-returns-in-Known t c = λ m base i p v inside h.
+    let u = c.args.self.now in
+    let k = chosen m (path_of p) in
+    let e = c.args.e.now in
+    let scope = c.args.at.scope.now in
+    c.each_end.ensures m k base i (resolved_value e h.0) v (elim c.in-Known.is [
+      | inl x ↦ known_holds k u base scope h.0 e x.0 c.in-Known.stored h.1 x.1
+      | inr d ↦ found_holds k u base scope h.0 e _ _ c.in-Known.stored h.1 d.1
+    ]) h.2
+
+pub each_part-returns : goal.each_part-returns
+each_part-returns t c = λ m base env i p v inside fits names along.
+    let u = c.args.self.now in
+    let k = chosen m (path_of p) in
+    let es = c.args.parts.now in
+    let x = c.args.name.now in
+    let place = c.in_ok-place.place in
+    let own = c.in_ok-part.part.now in
+    let f = c.in-Field.field.now in
+    let whole = built x (resolved_values es env) in
+    let g = subst (λ d. IsAlong k u base d whole v) c.in-Field.is along in
+    let at = lent_at es place c.get.result c.in_ok-part.part c.get.ensures.lookup c.in_ok-part.ensures.ok_part in
+    let found : Some place ≡ position (bytes_eq f) (fields_in (g.0 x)) = sym c.in_ok-place.ensures.ok_part ∙ c.hinted_place.ensures k base g.0 g.1 g.2 in
+    c.each_along.ensures m base i p v inside (
+      env,
+      record { fits = fits; resolved = resolved_at es u base (names_of c.args.at.scope.now) place own names at },
+      subst (λ w. IsAlong k u base c.in-Field.next.now w v) (sym (picked_open es env x place own (λ y. fields_in (g.0 y)) f whole refl (sym found) at)) g.3,
+    )
+
+pub each_choice-returns-in-End : goal.each_choice-returns-in-End
+each_choice-returns-in-End t c = λ m base env i p v inside h varied along.
+    let k = chosen m (path_of p) in
+    let same = subst (λ d. IsAlong k c.args.self.now base d (resolved_value c.args.e.now env) v) c.in-End.is along in
+    c.each_member.ensures m i p v inside (subst (IsVaried k c.args.self.now c.args.choice) same varied)
+
+pub each_choice-returns-in_ok-stored-in-Some : goal.each_choice-returns-in_ok-stored-in-Some
+each_choice-returns-in_ok-stored-in-Some t c = λ m base env i p v inside h varied along.
+    let u = c.args.self.now in
+    let k = chosen m (path_of p) in
+    let w = resolved_value c.args.e.now env in
+    let held = subst (λ o. IfSome o (λ (r : Stored). Holds u r w)) c.in_ok-stored-in-Some.ensures.ok_part (c.stored.ensures m u p w (c.in-Some.ensures i p inside) varied) in
+    c.each_end.ensures m k base i w v held along
+
+pub each_entry-returns-in-Open : goal.each_entry-returns-in-Open
+each_entry-returns-in-Open t c = λ m base env i p v inside h entry along.
+    let u = c.args.self.now in
+    let k = chosen m (path_of p) in
+    let g = subst (λ s. IsEntry k u base s (resolved_value c.args.e.now env)) c.in-Open.is entry in
+    c.each_along.ensures m base i p v inside
+    (g.0, record { fits = g.1; resolved = g.2 }, subst (λ w. IsAlong k u base c.args.trail.now w v) g.3 along)
+
+pub each_choice-returns-in-None : goal.each_choice-returns-in-None
+each_choice-returns-in-None t c = λ m base env i p v inside h varied along. c.each_parted.ensures m base i p v inside (env, h, along)
+
+pub each_entry-returns-in-None : goal.each_entry-returns-in-None
+each_entry-returns-in-None t c = λ m base env i p v inside h entry along. c.each_parted.ensures m base i p v inside (env, h, along)
+
+pub each_entry-returns-in-Varied : goal.each_entry-returns-in-Varied
+each_entry-returns-in-Varied t c = λ m base env i p v inside h entry along.
+    c.each_choice.ensures m base env i p v inside h
+    (subst (λ s. IsEntry (chosen m (path_of p)) c.args.self.now base s (resolved_value c.args.e.now env)) c.in-Varied.is entry) along
+
+pub each_entry-returns-in-Some : goal.each_entry-returns-in-Some
+each_entry-returns-in-Some t c = λ m base env i p v inside h entry along.
+    let w = resolved_value c.args.e.now env in
+    let g = subst (λ s. IsEntry (chosen m (path_of p)) c.args.self.now base s w) c.in-Drawn.is entry in
+    c.each_drawn.ensures m base g.0 i p w v inside (record { fits = g.2; resolved = g.3 }) (c.in-Some.ensures m i p (resolved_value c.in-Drawn.set.now g.0) w inside g.1) along
+
+pub each_drawn-returns-in-Some : goal.each_drawn-returns-in-Some
+each_drawn-returns-in-Some t c = λ m base env i p v w inside set at along.
+    let u = c.args.self.now in
+    let k = chosen m (path_of p) in
+    let own = c.in-Some.ensures k u base c.args.within.now env v set at in
+    c.each_along.ensures m base i p w inside (env, own.0, subst (λ x. IsAlong k u base c.args.trail.now x w) own.1 along)
+
+pub each_drawn-returns : goal.each_drawn-returns
+each_drawn-returns t c = λ m base env i p v w inside set at along. c.each_along-2.ensures m base i p w inside (env, set, (v, at, along))
+
+pub each_led-returns-in-Err-Alone : goal.each_led-returns-in-Err-Alone
+each_led-returns-in-Err-Alone t c = λ m base env i p inside h. c.each_along.ensures m base i p (resolved_value c.args.e.now env) inside (env, h, refl)
+
+pub each_parted-merged-requires-clause-like : goal.each_parted-merged-requires-clause-like
+each_parted-merged-requires-clause-like t c = record {
+  holds = λ m base i p v at h. c.in_ok-some.ensures m base i p v (subst (λ ps. slice_get ps i ≡ Some p) (sym c.along.ensures) at) h;
+}
+
+pub each_parted-merged-requires-clause-others : goal.each_parted-merged-requires-clause-others
+each_parted-merged-requires-clause-others t c = record {
+  holds = λ m base i p v at h. c.in_ok-rest.ensures m base i p v (subst (λ ps. slice_get ps i ≡ Some p) (sym c.along-2.ensures) at) h;
+}
+
+pub each_split-returns : goal.each_split-returns
+each_split-returns t c = λ m base i p v inside h.
+    let first = c.in_ok-first.first in
+    let others = c.in_ok-others.others in
+    let either = either_at c.args.cases.paths.now c.args.count i c.get.result c.get-2.result first others p
+    c.get.ensures.lookup c.in_ok-first.ensures.ok_part c.get-2.ensures.lookup c.in_ok-others.ensures.ok_part inside in
+    elim either [
+      | inl f ↦ c.followed.ensures.first m i v f.0
+          (c.in_ok-some.ensures m base i p v (subst (λ ps. slice_get ps i ≡ Some p) (sym c.along.ensures) f.1) h)
+      | inr r ↦ subst (λ n. IfOk c.followed.result (λ x. KnownFor m x n v)) (sym r.1)
+          (c.followed.ensures.rest m r.0 v r.2
+          (c.in_ok-rest.ensures m base r.0 p v (subst (λ ps. slice_get ps r.0 ≡ Some p) (sym c.along-2.ensures) r.3) h))
+    ]
+
+pub each_joined-returns-in-Same : goal.each_joined-returns-in-Same
+each_joined-returns-in-Same t c = λ m base env i p inside set body sets.
+    let s = resolved_value c.args.bodies.set.now env in
+    c.joined_shared.ensures m base env i p s inside body (subst (λ r. AreSets (chosen m (path_of p)) c.args.self.now base r i s) c.in-Same.is sets)
+
+pub each_joined-returns-in-Held : goal.each_joined-returns-in-Held
+each_joined-returns-in-Held t c = λ m base env i p inside set body sets.
+    let u = c.args.self.now in
+    let s = resolved_value c.args.bodies.set.now env in
+    c.joined_sets.ensures m base env i p s inside body
+    (subst (λ ss. HoldsFor u ss i s) (sym c.as_slice.ensures.value) (subst (λ r. AreSets (chosen m (path_of p)) u base r i s) c.in-Held.is sets))
+
+pub each_joined-returns-in-Drawn : goal.each_joined-returns-in-Drawn
+each_joined-returns-in-Drawn t c = λ m base env i p inside set body sets. c.joined_led.ensures m base env i p inside set body
+
+pub each_counted-returns-in-Same : goal.each_counted-returns-in-Same
+each_counted-returns-in-Same t c = λ m base env i p inside set body sets.
+    let s = resolved_value c.args.bodies.set.now env in
+    c.counted_shared.ensures m base env i p s inside body (subst (λ r. AreSets (chosen m (path_of p)) c.args.self.now base r i s) c.in-Same.is sets)
+
+pub each_counted-returns-in-Held : goal.each_counted-returns-in-Held
+each_counted-returns-in-Held t c = λ m base env i p inside set body sets.
+    let u = c.args.self.now in
+    let s = resolved_value c.args.bodies.set.now env in
+    c.counted_over.ensures m base env i p s inside body
+    (subst (λ ss. HoldsFor u ss i s) (sym c.as_slice.ensures.value) (subst (λ r. AreSets (chosen m (path_of p)) u base r i s) c.in-Held.is sets))
+
+pub each_counted-returns-in-Drawn : goal.each_counted-returns-in-Drawn
+each_counted-returns-in-Drawn t c = λ m base env i p inside set body sets.
+    c.counted_over-in-Drawn.ensures m base env i p (resolved_value c.args.bodies.set.now env) inside body (set, refl)
+
+pub joined_led-returns-then-is_used : goal.joined_led-returns-then-is_used
+joined_led-returns-then-is_used t c = λ m base env i p inside set body.
+    c.joined_over.ensures m base env i p (resolved_value c.args.bodies.set.now env) inside body (set, refl)
+
+pub joined_led-returns : goal.joined_led-returns
+joined_led-returns t c = λ m base env i p inside set body.
+    let s = resolved_value c.args.bodies.set.now env in
+    c.joined_same.ensures m base env i p s inside body
+    (subst (λ xs. slice_get xs i ≡ Some (length (members s))) (sym c.as_slice.ensures.value) (c.in_ok-counts.ensures m base env i p inside set))
+
+pub joined_sets-returns-then-not-is_used : goal.joined_sets-returns-then-not-is_used
+joined_sets-returns-then-not-is_used t c = λ m base env i p s there meets holds.
+    c.joined_same.ensures m base env i p s there meets
+    (subst (λ xs. slice_get xs i ≡ Some (length (members s))) (sym c.as_slice.ensures.value) (c.in_ok-counts.ensures i s holds))
+
+pub joined_same-returns : goal.joined_same-returns
+joined_same-returns t c = λ m base env i p s inside meets count.
+    let bodies = resolved_bodies c.args.bodies env s in
+    c.times.ensures m c.args.op i (length (members s)) bodies count (omega (arith, bodies_count c.args.bodies env s))
+    (λ j w at.
+    let v = get_or (members s) j (truth_value false) in
+    let there : slice_get (members s) j ≡ Some v =
+    member_at (members s) j (length (members s)) refl (omega (arith, slice_get_within bodies j w at, bodies_count c.args.bodies env s)) in
+    let same : resolved_body c.args.bodies env v ≡ w = same_Some (resolved_body c.args.bodies env v) w (sym (body_at c.args.bodies env s v j there) ∙ at) in
+    subst (KnownFor m c.in_ok-body.body i) same (c.in_ok-body.ensures m base env i p v inside meets))
+
+pub same_bodies-returns-clause-ahead : goal.same_bodies-returns-clause-ahead
+same_bodies-returns-clause-ahead t c = record {
+  holds = λ m base env i j p s v inside h heads within at.
+      let w = resolved_body c.args.bodies env v in
+      subst (λ n. KnownFor m c.in_ok-each.each (i + n * j) w) c.len.ensures
+      (c.in_ok-each.ensures m i j w (subst (λ n. i < n) (sym c.len.ensures) (slice_get_within c.args.cases.paths.now i p inside)) within
+      (c.in_ok-body.ensures m base env i p v inside h));
+}
+
+pub joined_lone-returns : goal.joined_lone-returns
+joined_lone-returns t c = λ m op base env i p inside set body size.
+    let s = resolved_value c.args.bodies.set.now env in
+    let bodies = resolved_bodies c.args.bodies env s in
+    let v = get_or (members s) 0 (truth_value false) in
+    let at : slice_get (members s) 0 ≡ Some v = member_at (members s) 0 (length (members s)) refl (omega (arith, size)) in
+    let w = resolved_body c.args.bodies env v in
+    let known = c.in_ok-each.ensures m base env env i p v inside body set at in
+    let one : take 1 bodies ≡ bodies = all_bodies c.args.bodies env s 1 (sym size) in
+    subst (λ x. IfOk c.formulas.result (λ r. KnownFor m r i x))
+    (joined_one op bodies w (body_at c.args.bodies env s v 0 at) ∙ ap (connected_all op) one)
+    (c.formulas.ensures m op i w (subst (λ n. i < n) (sym c.len.ensures) (slice_get_within c.args.cases.paths.now i p inside)) known)
+
+pub joined_drawn-returns-then-branch : goal.joined_drawn-returns-then-branch
+joined_drawn-returns-then-branch t c = λ m base env i p inside h set body here same.
+    let s = resolved_value c.args.bodies.set.now env in
+    subst (λ w. IfOk c.joined_lone.result (λ r. KnownFor m r i w)) (sym same)
+    (c.joined_lone.ensures m c.args.op base env i p inside set body (c.in_ok-are_lone.ensures m base i p s inside here c.if-branch.true))
+
+pub joined_drawn-returns-then-len-gt-FEW : goal.joined_drawn-returns-then-len-gt-FEW
+joined_drawn-returns-then-len-gt-FEW t c = λ m base env i p inside h set body here same.
+    c.each_parted.ensures m base i p (resolved_value c.args.e.now env) inside (env, h, refl)
+
+pub joined_drawn-returns : goal.joined_drawn-returns
+joined_drawn-returns t c = λ m base env i p inside h set body here same.
+    subst (λ w. IfOk c.joined_led.result (λ r. KnownFor m r i w)) (sym same) (c.joined_led.ensures m base env i p inside set body)
+
+pub each_quantifier-returns-in-Drawn : goal.each_quantifier-returns-in-Drawn
+each_quantifier-returns-in-Drawn t c = λ m base env i p inside h.
+    let u = c.args.self.now in
+    let scope = c.args.at.scope.now in
+    let k = chosen m (path_of p) in
+    let parts = subst (IsResolved u base (names_of scope)) c.in-Joined.is h.resolved in
+    let set = part_meets k u base scope env c.args.e.now _ h (subst (IsResolved u base (names_of scope)) (sym c.deref.ensures) parts.0) in
+    let sets = subst (λ r. AreSets k u base r i (resolved_value c.deref.result.now env)) c.in-Drawn.is (c.in_ok-sets-in-Joined.ensures m base env i p inside set) in
+    c.joined_drawn.ensures m base env i p inside h set (body_meets k u base scope env _ _ c.deref-in-Joined.ensures h.fits parts.1) sets
+    (sym (ap (connected_all c.in-Joined.op) (bodies_by c.in-Joined.name env _ _ _ _ c.deref.ensures c.deref-in-Joined.ensures) ∙ sym (ap (λ r. resolved_value r env) c.in-Joined.is)))
+
+pub each_quantifier-returns-in_default-sets : goal.each_quantifier-returns-in_default-sets
+each_quantifier-returns-in_default-sets t c = λ m base env i p inside h.
+    let u = c.args.self.now in
+    let scope = c.args.at.scope.now in
+    let k = chosen m (path_of p) in
+    let parts = subst (IsResolved u base (names_of scope)) c.in-Joined.is h.resolved in
+    let set = part_meets k u base scope env c.args.e.now _ h (subst (IsResolved u base (names_of scope)) (sym c.deref.ensures) parts.0) in
+    subst (λ w. IfOk c.each_joined.result (λ r. KnownFor m r i w))
+    (ap (connected_all c.in-Joined.op) (bodies_by c.in-Joined.name env _ _ _ _ c.deref.ensures c.deref-in-Joined.ensures) ∙ sym (ap (λ r. resolved_value r env) c.in-Joined.is))
+    (c.each_joined.ensures m base env i p inside set (body_meets k u base scope env _ _ c.deref-in-Joined.ensures h.fits parts.1)
+    (c.in_ok-sets-in-Joined.ensures m base env i p inside set))
+
+pub each_quantifier-returns-then-len-gt-FEW : goal.each_quantifier-returns-then-len-gt-FEW
+each_quantifier-returns-then-len-gt-FEW t c = λ m base env i p inside h.
+    c.each_parted.ensures m base i p (resolved_value c.args.e.now env) inside (env, h, refl)
+
+pub each_quantifier-returns-after-sets-4 : goal.each_quantifier-returns-after-sets-4
+each_quantifier-returns-after-sets-4 t c = λ m base env i p inside h.
+    let u = c.args.self.now in
+    let scope = c.args.at.scope.now in
+    let k = chosen m (path_of p) in
+    let parts = subst (IsResolved u base (names_of scope)) c.in-Counted.is h.resolved in
+    let set = part_meets k u base scope env c.args.e.now _ h (subst (IsResolved u base (names_of scope)) (sym c.deref-in-Counted.ensures) parts.0) in
+    subst (λ w. IfOk c.each_counted.result (λ r. KnownFor m r i w))
+    (ap (counted c.in-Counted.op c.in-Counted.number) (bodies_by c.in-Counted.name env _ _ _ _ c.deref-in-Counted.ensures c.deref-in-Counted-2.ensures)
+    ∙ sym (ap (λ r. resolved_value r env) c.in-Counted.is))
+    (c.each_counted.ensures m base env i p inside set (body_meets k u base scope env _ _ c.deref-in-Counted-2.ensures h.fits parts.1)
+    (c.in_ok-sets-in-Counted.ensures m base env i p inside set))

@@ -1,15 +1,16 @@
-use Rattle.std.proofs.Common.{inl, inr, position, ap, sym, subst, refl, ◌∙◌, IfOk}
+use Rattle.std.proofs.Common.{inl, inr, position, length, ap, sym, subst, refl, arith, ◌∙◌, IfOk}
 use Rattle.std.specs.Str.{bytes_eq}
-use Rattle.c2po_unfold.specs.Values.{built, grouped}
-use Rattle.c2po_unfold.specs.Environment.{fields_in}
-use Rattle.c2po_unfold.specs.Heads.{HeadsIn}
-use Rattle.c2po_unfold.specs.Resolving.{AllResolved, resolved_values}
+use Rattle.c2po_unfold.specs.Values.{built, grouped, members}
+use Rattle.c2po_unfold.specs.Cases.{IsDrawn}
+use Rattle.c2po_unfold.specs.Environment.{fields_in, value_in}
+use Rattle.c2po_unfold.specs.Heads.{HeadsIn, IsEntry}
+use Rattle.c2po_unfold.specs.Resolving.{AllResolved, resolved_value, resolved_values}
 use Rattle.c2po_unfold.specs.Scopes.{names_of}
 use Rattle.c2po_unfold.proofs.Columns.{column_bound, column_holds}
 use Rattle.c2po_unfold.proofs.Leading.{known_holds, found_holds}
 use Rattle.c2po_unfold.proofs.Members.{found_at, resolved_at}
-use Rattle.c2po_unfold.proofs.Pathwise.{field_same, whole_meets}
-use Rattle.c2po_unfold.proofs.Parts.{picked_open, picked_past, other_picked}
+use Rattle.c2po_unfold.proofs.Pathwise.{field_same, variable_bound, variable_same, whole_meets}
+use Rattle.c2po_unfold.proofs.Parts.{picked_open, picked_past, other_picked, set_count, members_count, member_open, member_held, no_member, other_members}
 use Rattle.c2po_unfold.proofs.Rows.{resolved_of-Build, resolved_of-Group, are_resolved-Build, are_resolved-Group}
 use Rattle.c2po_unfold.proofs.unfolding.Unfolding.+heading.Goals as goal
 
@@ -82,3 +83,58 @@ head-returns-in-Some-written_part-clause-head t c = λ m base env h.
     subst (λ w. IfOk c.head-in-Some-written_part.result (λ h. HeadsIn m c.args.self.now base h w))
     (part.2 ∙ field_same env e _ d _ c.in-Part.field c.in-Part.hint c.in-Part.is c.deref-in-Part.ensures)
     (c.head-in-Some-written_part.ensures.head m base part.0 part.1)
+
+pub member-returns-in-Some-clause-head : goal.member-returns-in-Some-clause-head
+member-returns-in-Some-clause-head t c = λ m base s v k q.
+    let g = subst (λ h. HeadsIn m c.args.self.now base h s) c.in-Set.is k in
+    let at = found_at _ _ _ _ refl c.in-Some.ensures.lookup.3.0 c.in-Some.ensures.lookup.1 in
+    let is = member_open c.in-Set.members.now g.0 c.args.i c.in-Some.expr.now s v g.5 at q in
+    let names = resolved_at c.in-Set.members.now c.args.self.now base (names_of c.in-Set.within.now) c.args.i c.in-Some.expr.now g.4 at in
+    subst (λ w. IfOk c.head.result (λ h. HeadsIn m c.args.self.now base h w)) (sym is)
+    (c.head.ensures.head m base g.0 (record { fits = g.1; resolved = names }))
+
+pub member-returns-in-None-clause-head : goal.member-returns-in-None-clause-head
+member-returns-in-None-clause-head t c = λ m base s v k q.
+    absurd (no_member (members s) c.args.i _ v (set_count m c.args.self.now base c.args.set.now c.in-Set.within c.in-Set.field-1 c.in-Set.members s c.in-Set.is k)
+    c.in-None.ensures.lookup.3 q)
+
+pub member-returns-in-Some-get-clause-head : goal.member-returns-in-Some-get-clause-head
+member-returns-in-Some-get-clause-head t c = λ m base s v k q.
+    member_held s c.args.self.now c.held_members.result.now c.args.i c.in-Some-get.member.now v
+    (c.held_members.ensures s (subst (λ h. HeadsIn m c.args.self.now base h s) c.in-Held.is k))
+    (found_at _ _ _ _ refl c.in-Some-get.ensures.lookup.3.0 c.in-Some-get.ensures.lookup.1) q
+
+pub member-returns-in-None-get-clause-head : goal.member-returns-in-None-get-clause-head
+member-returns-in-None-get-clause-head t c = λ m base s v k q.
+    absurd (no_member (members s) c.args.i _ v
+    (members_count s c.args.self.now c.held_members.result.now (c.held_members.ensures s (subst (λ h. HeadsIn m c.args.self.now base h s) c.in-Held.is k)))
+    c.in-None-get.ensures.lookup.3 q)
+
+pub member-returns-in-Nothing-clause-head : goal.member-returns-in-Nothing-clause-head
+member-returns-in-Nothing-clause-head t c = λ m base s v k q.
+    absurd (no_member (members s) c.args.i 0 v (sym (ap length (other_members m c.args.self.now base c.args.set.now s c.in-Nothing.is k))) (omega arith) q)
+
+pub drawn_head-returns-in_ok-set-in-First-clause-head : goal.drawn_head-returns-in_ok-set-in-First-clause-head
+drawn_head-returns-in_ok-set-in-First-clause-head t c = λ m base env v h drawn.
+    let s = resolved_value c.args.set.now env in
+    c.member.ensures.head m base s v (c.in_ok-set-in-First.ensures.head m base env h) (subst (λ d. IsDrawn m d s v) c.in-First.is drawn)
+
+pub entry_head-returns-in-Drawn-clause-head : goal.entry_head-returns-in-Drawn-clause-head
+entry_head-returns-in-Drawn-clause-head t c = λ m base v entry.
+    let g = subst (λ s. IsEntry m c.args.self.now base s v) c.in-Drawn.is entry in
+    c.drawn_head.ensures.head m base g.0 v (record { fits = g.2; resolved = g.3 }) g.1
+
+pub entry_head-returns-in-Open-clause-head : goal.entry_head-returns-in-Open-clause-head
+entry_head-returns-in-Open-clause-head t c = λ m base v entry.
+    let g = subst (λ s. IsEntry m c.args.self.now base s v) c.in-Open.is entry in
+    subst (λ w. IfOk c.head.result (λ r. HeadsIn m c.args.self.now base r w)) (sym g.3)
+    (c.head.ensures.head m base g.0 (record { fits = g.1; resolved = g.2 }))
+
+pub head-returns-in_ok-levels-in-Variable-clause-head : goal.head-returns-in_ok-levels-in-Variable-clause-head
+head-returns-in_ok-levels-in-Variable-clause-head t c = λ m base env h.
+    let u = c.args.self.now in
+    let e = c.args.e.now in
+    let x = c.in-Variable.name in
+    let bound = variable_bound m u base c.args.scope.now env e x h c.in-Variable.is in
+    subst (λ w. IfOk c.entry_head.result (λ r. HeadsIn m u base r w)) (sym (variable_same env e x c.in-Variable.is))
+    (c.entry_head.ensures.head m base (value_in (env x)) (c.entry.ensures m u base env h.fits bound))

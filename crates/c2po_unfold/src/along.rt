@@ -1,0 +1,317 @@
+//! What is known of parts of values, in several cases at once.
+//!
+//! A variable that is a member of a set that is written out, as a struct's value or a set, has no list of what is known of it.
+//! So an expression over it is followed to what it leads to, together in all cases that draw the same member.
+
+ghost use Rattle.std.specs.Prelude.{◌≡◌, ℕ, Some, IfOk, slice_get};
+ghost use Rattle.c2po_unfold.specs.declared.path.Path.{Path as CasePath};
+ghost use Rattle.c2po_unfold.specs.Ahead.{KnownFor};
+ghost use Rattle.c2po_unfold.specs.Along.{IsAlong, Reaches};
+ghost use Rattle.c2po_unfold.specs.Cases.{Case, IsVaried, chosen, path_of};
+ghost use Rattle.c2po_unfold.specs.Covering.{Mode};
+ghost use Rattle.c2po_unfold.specs.Environment.{Env, fields_in};
+ghost use Rattle.c2po_unfold.specs.Heads.{IsEntry};
+ghost use Rattle.c2po_unfold.specs.Holding.{Holds};
+ghost use Rattle.c2po_unfold.specs.Resolving.{AllResolved, IsPlace, resolved_value, resolved_values};
+ghost use Rattle.c2po_unfold.specs.Scopes.{FitsIn, MeetsIn, names_of};
+ghost use Rattle.c2po_unfold.specs.Values.{Value, built, grouped, members, picked};
+
+use crate::Unfolding;
+use crate::each::{Each, Stop};
+use crate::fault::deeper;
+use crate::path::Cases;
+use crate::resolved::{Hint, Resolved};
+use crate::room::Room;
+use crate::scope::{Choice, Scope, Site};
+use crate::values::Stored;
+use mltl_base::Name;
+
+/// Which part of a value is looked at, through fields and members within one another.
+#[derive(Clone, Copy)]
+pub enum Trail<'a> {
+    /// The value itself.
+    End,
+    /// A part of what a field of it names.
+    Field {
+        scope: &'a Scope<'a>,
+        field: &'a Name,
+        hint: &'a Hint,
+        next: &'a Trail<'a>,
+    },
+    /// A part of its member with a number.
+    Member {
+        number: usize,
+        next: &'a Trail<'a>,
+    },
+}
+
+impl Unfolding {
+    /// What is known in each case of a part of an expression's value.
+    #[cycle(each)]
+    pub(crate) fn each_along(
+        &self,
+        at: Site<'_>,
+        cases: Cases<'_>,
+        e: &Resolved,
+        trail: &Trail<'_>,
+        room: Room,
+    ) -> Result<Each, Stop>
+        ensures { (m : Mode) (base : Env) (i : ℕ) (p : CasePath) (v : Value)
+            → slice_get cases.entry.paths.now i ≡ Some p
+            → Reaches (chosen m (path_of p)) self.now base at.entry.scope.now e.now trail.now v
+            → IfOk result (λ r. KnownFor m r i v) }
+    {
+        let depth = deeper(at.depth)?;
+        let at = Site { depth, ..at };
+        match e {
+            Resolved::Known(_, stored) | Resolved::Found(_, stored) => {
+                self.each_end(at.depth, *stored, trail)
+            }
+            Resolved::Variable(name) => {
+                let entry = at.scope.entry(name);
+                self.each_entry(at, cases, e, entry, trail, room)
+            }
+            Resolved::Column(e, ..) => self.each_along(at, cases, e, trail, room),
+            Resolved::Part(whole, field, hint) => {
+                self.each_field(at, cases, whole, field, hint, trail, room)
+            }
+            Resolved::Build(name, parts) => {
+                self.each_part(at, cases, name, parts.as_slice(), trail, room)
+            }
+            Resolved::Group(members) => {
+                self.each_item(at, cases, members.as_slice(), trail, room)
+            }
+            _ => match trail {
+                Trail::End => self.each(at, cases, e, room),
+                Trail::Field { .. } | Trail::Member { .. } => Err(Stop::Alone),
+            },
+        }
+    }
+
+    /// What is known in each case of a part of what a field of an expression names.
+    #[cycle(each)]
+    fn each_field(
+        &self,
+        at: Site<'_>,
+        cases: Cases<'_>,
+        whole: &Resolved,
+        field: &Name,
+        hint: &Hint,
+        trail: &Trail<'_>,
+        room: Room,
+    ) -> Result<Each, Stop>
+        ensures { (m : Mode) (base env : Env) (i : ℕ) (p : CasePath) (v : Value)
+            → slice_get cases.entry.paths.now i ≡ Some p
+            → MeetsIn (chosen m (path_of p)) self.now base at.entry.scope.now env whole.now
+            → IsPlace base (names_of at.entry.scope.now) field.now hint.now
+            → IsAlong (chosen m (path_of p)) self.now base trail.now
+            (picked (λ y. fields_in (env y)) field.now (resolved_value whole.now env)) v
+            → IfOk result (λ r. KnownFor m r i v) }
+    {
+        let trail = &Trail::Field {
+            scope: &*at.scope,
+            field: &*field,
+            hint: &*hint,
+            next: &*trail,
+        };
+        self.each_along(at, cases, whole, trail, room)
+    }
+
+    /// What is known in each case of a part of a member of a set that is written out.
+    #[cycle(each)]
+    fn each_item(
+        &self,
+        at: Site<'_>,
+        cases: Cases<'_>,
+        members: &[Resolved],
+        trail: &Trail<'_>,
+        room: Room,
+    ) -> Result<Each, Stop>
+        ensures { (m : Mode) (base env : Env) (i : ℕ) (p : CasePath) (v : Value)
+            → slice_get cases.entry.paths.now i ≡ Some p
+            → FitsIn (chosen m (path_of p)) self.now base at.entry.scope.now env
+            → AllResolved self.now base (names_of at.entry.scope.now) members.now
+            → IsAlong (chosen m (path_of p)) self.now base trail.now
+            (grouped (resolved_values members.now env)) v
+            → IfOk result (λ r. KnownFor m r i v) }
+    {
+        let Trail::Member { number, next } = trail else {
+            return Err(Stop::Alone);
+        };
+        let member = members.get(*number).ok_or(Stop::Alone)?;
+        self.each_along(at, cases, member, next, room)
+    }
+
+    /// What is known in each case of a part of a struct's value that is written out.
+    #[cycle(each)]
+    fn each_part(
+        &self,
+        at: Site<'_>,
+        cases: Cases<'_>,
+        name: &Name,
+        parts: &[Resolved],
+        trail: &Trail<'_>,
+        room: Room,
+    ) -> Result<Each, Stop>
+        ensures { (m : Mode) (base env : Env) (i : ℕ) (p : CasePath) (v : Value)
+            → slice_get cases.entry.paths.now i ≡ Some p
+            → FitsIn (chosen m (path_of p)) self.now base at.entry.scope.now env
+            → AllResolved self.now base (names_of at.entry.scope.now) parts.now
+            → IsAlong (chosen m (path_of p)) self.now base trail.now
+            (built name.now (resolved_values parts.now env)) v
+            → IfOk result (λ r. KnownFor m r i v) }
+    {
+        let Trail::Field {
+            scope,
+            field,
+            hint,
+            next,
+        } = trail
+        else {
+            return Err(Stop::Alone);
+        };
+        let place = self
+            .hinted_place(scope, name, field, hint)
+            .ok_or(Stop::Alone)?;
+        let part = parts.get(place).ok_or(Stop::Alone)?;
+        self.each_along(at, cases, part, next, room)
+    }
+
+    /// What is known in each case of a part of a variable, which is an expression and the innermost of these.
+    #[cycle(each)]
+    fn each_entry(
+        &self,
+        at: Site<'_>,
+        cases: Cases<'_>,
+        e: &Resolved,
+        entry: &Scope<'_>,
+        trail: &Trail<'_>,
+        room: Room,
+    ) -> Result<Each, Stop>
+        ensures { (m : Mode) (base env : Env) (i : ℕ) (p : CasePath) (v : Value)
+            → slice_get cases.entry.paths.now i ≡ Some p
+            → MeetsIn (chosen m (path_of p)) self.now base at.entry.scope.now env e.now
+            → IsEntry (chosen m (path_of p)) self.now base entry.now (resolved_value e.now env)
+            → IsAlong (chosen m (path_of p)) self.now base trail.now (resolved_value e.now env) v
+            → IfOk result (λ r. KnownFor m r i v) }
+    {
+        match entry {
+            Scope::Top | Scope::Covered { .. } => Err(Stop::Alone),
+            Scope::Held { stored, .. } => self.each_end(at.depth, *stored, trail),
+            Scope::Open { expr, within, .. } => {
+                let own = Site {
+                    scope: within,
+                    ..at
+                };
+                self.each_along(own, cases, expr, trail, room)
+            }
+            Scope::Varied { choice, .. } => self.each_choice(at, cases, e, *choice, trail, room),
+            Scope::Drawn {
+                set,
+                within,
+                draw,
+                ..
+            } => match draw.agreed(cases.paths) {
+                Some(number) => self.each_drawn(at, cases, set, within, number, trail, room),
+                None => self.each_parted(at, cases, e, trail, *draw, room),
+            },
+        }
+    }
+
+    /// What is known in each case of a part of a variable, of which this is listed.
+    #[cycle(each)]
+    fn each_choice(
+        &self,
+        at: Site<'_>,
+        cases: Cases<'_>,
+        e: &Resolved,
+        choice: Choice<'_>,
+        trail: &Trail<'_>,
+        room: Room,
+    ) -> Result<Each, Stop>
+        ensures { (m : Mode) (base env : Env) (i : ℕ) (p : CasePath) (v : Value)
+            → slice_get cases.entry.paths.now i ≡ Some p
+            → MeetsIn (chosen m (path_of p)) self.now base at.entry.scope.now env e.now
+            → IsVaried (chosen m (path_of p)) self.now choice.entry (resolved_value e.now env)
+            → IsAlong (chosen m (path_of p)) self.now base trail.now (resolved_value e.now env) v
+            → IfOk result (λ r. KnownFor m r i v) }
+    {
+        if let Trail::End = trail {
+            return self.each_member(choice, cases);
+        }
+        match choice.agreed(cases.paths) {
+            Some(number) => {
+                let stored = choice.stored(number).ok_or(Stop::Alone)?;
+                self.each_end(at.depth, stored, trail)
+            }
+            None => self.each_parted(at, cases, e, trail, choice.draw(), room),
+        }
+    }
+
+    /// What is known in each case of a part of the member with a number of a set.
+    #[cycle(each)]
+    fn each_drawn(
+        &self,
+        at: Site<'_>,
+        cases: Cases<'_>,
+        set: &Resolved,
+        within: &Scope<'_>,
+        number: usize,
+        trail: &Trail<'_>,
+        room: Room,
+    ) -> Result<Each, Stop>
+        ensures { (m : Mode) (base env : Env) (i : ℕ) (p : CasePath) (v w : Value)
+            → slice_get cases.entry.paths.now i ≡ Some p
+            → MeetsIn (chosen m (path_of p)) self.now base within.now env set.now
+            → slice_get (members (resolved_value set.now env)) number ≡ Some v
+            → IsAlong (chosen m (path_of p)) self.now base trail.now v w
+            → IfOk result (λ r. KnownFor m r i w) }
+    {
+        let own = Site {
+            scope: &*within,
+            ..at
+        };
+        if let Some(member) = set.written_member(number) {
+            return self.each_along(own, cases, member, trail, room);
+        }
+        let trail = &Trail::Member {
+            number,
+            next: &*trail,
+        };
+        self.each_along(own, cases, set, trail, room)
+    }
+
+    /// What is known in each case of a part of a stored value.
+    fn each_end(&self, levels: u32, stored: Stored, trail: &Trail<'_>) -> Result<Each, Stop>
+        ensures { (m : Mode) (c : Case) (base : Env) (i : ℕ) (v w : Value) → Holds self.now stored v
+            → IsAlong c self.now base trail.now v w → IfOk result (λ r. KnownFor m r i w) }
+    {
+        let part = self.held_along(levels, stored, trail)?;
+        Ok(Each::Same(self.held(part)))
+    }
+
+    /// A part of a stored value.
+    #[cycle(holding)]
+    fn held_along(&self, levels: u32, stored: Stored, trail: &Trail<'_>) -> Result<Stored, Stop>
+        ensures { (c : Case) (base : Env) (v w : Value) → Holds self.now stored v
+            → IsAlong c self.now base trail.now v w → IfOk result (λ r. Holds self.now r w) }
+    {
+        let levels = deeper(levels)?;
+        match trail {
+            Trail::End => Ok(stored),
+            Trail::Field {
+                scope,
+                field,
+                hint,
+                next,
+            } => {
+                let part = self.held_part(scope, stored, field, hint);
+                self.held_along(levels, part, next)
+            }
+            Trail::Member { number, next } => {
+                let member = self.held_members(stored).get(*number).ok_or(Stop::Alone)?;
+                self.held_along(levels, *member, next)
+            }
+        }
+    }
+}
