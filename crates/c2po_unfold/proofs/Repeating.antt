@@ -1,28 +1,33 @@
 -- Bodies that are the same for all members, and cases in parts.
 
-use Rattle.std.proofs.Common.{◌≡◌, ℕ, zero, suc, ◌+◌, ◌*◌, ◌%◌, ◌<◌, Some, List, [], ◌∷◌, ◌++◌, ◌⊎◌, inl, inr, false, take, length, get_or, slice_get, refl, sym, subst, ap, ◌∙◌, arith, mod-eq_of_lt}
+use Rattle.std.proofs.Common.{◌≡◌, Bor, ℕ, zero, suc, ◌+◌, ◌*◌, ◌%◌, ◌<◌, Some, List, [], ◌∷◌, ◌++◌, ◌⊎◌, inl, inr, false, take, length, get_or, slice_get, refl, sym, subst, ap, ◌∙◌, arith, mod-eq_of_lt}
 use Rattle.std.proofs.Math.Nat.{add-mul-mod_self_left}
 use Rattle.std.proofs.lemmas.List.{length-append, take_all}
-use Rattle.std.proofs.lemmas.Option.{same_Some}
+use Rattle.std.proofs.lemmas.Option.{same_Some, slice_get-get_or, slice_get_within}
 use Rattle.mltl_base.specs.declared.operators.LogicOp.{LogicOp}
 use Rattle.c2po_nodes.proofs.Places.{get_last, get_left}
 use Rattle.c2po_unfold.specs.declared.each.Each.{Each}
 use Rattle.c2po_unfold.specs.declared.operators.BinaryOp.TheVariants.{Logic}
 use Rattle.c2po_unfold.specs.declared.path.Path.{Path}
-use Rattle.c2po_unfold.specs.declared.resolved.Resolved.{Resolved}
+use Rattle.c2po_unfold.specs.declared.resolved.Resolved.{Resolved, Truth, Variable}
+use Rattle.c2po_unfold.specs.declared.scope.Head.{Head}
+use Rattle.c2po_unfold.specs.declared.scope.Head.TheVariants as head
 use Rattle.c2po_unfold.specs.declared.scope.Scope.{Scope}
 use Rattle.c2po_unfold.specs.declared.summary.Summary.{Summary}
 use Rattle.c2po_unfold.specs.declared.unfolding.Unfolding.{Unfolding}
 use Rattle.c2po_unfold.specs.Ahead.{IsPut, KnownFor, known_at}
-use Rattle.c2po_unfold.specs.Cases.{HasBegun, IsParted, chosen, path_of}
+use Rattle.c2po_unfold.specs.Cases.{Case, HasBegun, IsParted, chosen, path_of}
 use Rattle.c2po_unfold.specs.Covering.{Mode}
 use Rattle.c2po_unfold.specs.Environment.{Env}
 use Rattle.c2po_unfold.specs.Operators.{binary_value}
-use Rattle.c2po_unfold.specs.Resolving.{resolved_value}
+use Rattle.c2po_unfold.specs.Heads.{HeadsIn}
+use Rattle.c2po_unfold.specs.Resolving.{resolved_value, resolved_values}
 use Rattle.c2po_unfold.specs.Scopes.{MeetsIn}
 use Rattle.c2po_unfold.specs.Summaries.{IsSummary}
-use Rattle.c2po_unfold.specs.Values.{Value, connected_all, members, truth_value}
+use Rattle.c2po_unfold.specs.Values.{Value, connected_all, list_of, members, truth_value}
 use Rattle.c2po_unfold.proofs.Loops.{joined_known, joined_one, member_at}
+use Rattle.c2po_unfold.proofs.Members.{values_count}
+use Rattle.c2po_unfold.proofs.Parts.{member_open}
 use Rattle.c2po_unfold.proofs.Several.{KnownSoFar, known_here, known_more, known_none, or_last, turn_within}
 
 -- a path without numbers, and the first one
@@ -236,3 +241,45 @@ rest_known m first rest n k i old now new v none h then inside known =
     let g = put_known m rest k i now new v then inside known in
     let place : length now + i ≡ n + i = omega (arith, h.count, ap length none) in
     (g.0, subst (λ j. slice_get new j ≡ Some g.0) place g.1, g.2)
+
+-- so many expressions from one on are the variable of this name
+pub record AreVariable (es : List Resolved) (i : ℕ) (x : List ℕ) (count : ℕ) : Type 0 where
+  pub some : 0 < count
+  pub each : (k : ℕ) (e : Resolved) → k < count → slice_get es (i + k) ≡ Some e → e ≡ Variable x
+
+pub variable_one : (es : List Resolved) (i : ℕ) (x : List ℕ) (d : Resolved) → slice_get es i ≡ Some d → d ≡ Variable x → AreVariable es i x 1
+variable_one es i x d at is = record {
+  some = omega arith;
+  each = λ k e inside there.
+      let here : i + k ≡ i = omega (arith, inside) in
+      same_Some e d (sym there ∙ (ap (slice_get es) here ∙ at)) ∙ is;
+}
+
+-- one more
+pub variable_more : (es : List Resolved) (i : ℕ) (x : List ℕ) (j : ℕ) (d : Resolved) → AreVariable es i x j → slice_get es (i + j) ≡ Some d → d ≡ Variable x →
+    AreVariable es i x (j + 1)
+variable_more es i x j d h at is = record { some = omega arith; each = λ k e inside there. by k e there (or_last k j inside) }
+  where
+    by : (k : ℕ) (e : Resolved) → slice_get es (i + k) ≡ Some e → (k < j) ⊎ (k ≡ j) → e ≡ Variable x
+    by k e there (inl inside) = h.each k e inside there
+    by k e there (inr last) = same_Some e d (sym there ∙ (ap (λ n. slice_get es (i + n)) last ∙ at)) ∙ is
+
+-- so they have one value
+pub variable_same : (es : List Resolved) (i : ℕ) (x : List ℕ) (count : ℕ) (env : Env) (d e : Resolved) (j : ℕ) → AreVariable es i x count → j < count →
+    slice_get es i ≡ Some d → slice_get es (i + j) ≡ Some e → resolved_value d env ≡ resolved_value e env
+variable_same es i x count env d e j h inside at there =
+    let here : i + 0 ≡ i = omega arith in
+    ap (λ r. resolved_value r env) (h.each 0 d (omega (arith, inside)) (ap (slice_get es) here ∙ at) ∙ sym (h.each j e inside there))
+
+-- a member of a set that is written out is what an expression of it means
+pub member_of : (c : Case) (u : Unfolding) (base : Env) (h : Head) (s v : Value) (within : Bor Scope) (e : Bor Resolved) (es : Bor (List Resolved)) (i : ℕ) →
+    (heads : HeadsIn c u base h s) → (is : h ≡ head.Set within e es) → slice_get (members s) i ≡ Some v →
+    (d : Resolved) × (slice_get es.now i ≡ Some d) × (v ≡ resolved_value d (subst (λ k. HeadsIn c u base k s) is heads).0)
+member_of c u base h s v within e es i heads is at =
+    let g = subst (λ k. HeadsIn c u base k s) is heads in
+    let all = list_of (resolved_values es.now g.0) in
+    let there : slice_get all i ≡ Some v = subst (λ x. slice_get (members x) i ≡ Some v) g.5 at in
+    let own = get_or es.now i (Truth false) in
+    let found : slice_get es.now i ≡ Some own =
+    slice_get-get_or es.now i (Truth false) (omega (arith, slice_get_within all i v there, values_count es.now g.0)) in
+    (own, found, member_open es.now g.0 i own s v g.5 found at)

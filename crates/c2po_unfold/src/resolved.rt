@@ -1,11 +1,12 @@
 //! Expressions whose names are resolved.
 
-ghost use Rattle.std.specs.Prelude.{◌≡◌, Some, IfSome, slice_get};
+ghost use Rattle.std.specs.Prelude.{◌≡◌, true, Some, IfSome, slice_get};
 ghost use Rattle.c2po_unfold.specs.Cases.{Case};
 ghost use Rattle.c2po_unfold.specs.Environment.{Env};
 ghost use Rattle.c2po_unfold.specs.Resolving.{is_operation, resolved_value};
 ghost use Rattle.c2po_unfold.specs.Scopes.{MeetsIn};
 ghost use Rattle.c2po_unfold.specs.Values.{Value, members};
+ghost use Rattle.c2po_unfold.specs.declared.resolved.Resolved.{Variable};
 ghost use Rattle.c2po_unfold.specs.declared.scope.Scope.{Scope};
 ghost use Rattle.c2po_unfold.specs.declared.unfolding.Unfolding.{Unfolding};
 
@@ -87,6 +88,16 @@ impl Resolved {
             | Resolved::Binary(..)
             | Resolved::Joined(..)
             | Resolved::Counted(..) => true,
+        }
+    }
+
+    /// Whether this is the variable of a name.
+    pub(crate) fn is_variable(&self, name: &Name) -> bool
+        ensures { result ≡ true → self.now ≡ Variable name.now }
+    {
+        match self {
+            Resolved::Variable(own) => is_named(own, name),
+            _ => false,
         }
     }
 

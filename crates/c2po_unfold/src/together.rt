@@ -12,7 +12,7 @@ ghost use Rattle.c2po_unfold.specs.declared.summary.Summary.{Summary as Found};
 ghost use Rattle.c2po_unfold.specs.declared.values.Stored.{Stored as Held};
 ghost use Rattle.c2po_unfold.specs.Ahead.{AreLight, AreListed, GatheredFor, HasMember, IsAhead, IsAheadIn, IsListed, IsTurnAhead, KnownFor, RowsLead, known_at};
 ghost use Rattle.c2po_unfold.specs.Bodies.{MeetsBodyIn};
-ghost use Rattle.c2po_unfold.specs.Cases.{IsOneOf, IsVaried, chosen, path_of};
+ghost use Rattle.c2po_unfold.specs.Cases.{Case, IsOneOf, IsVaried, chosen, path_of};
 ghost use Rattle.c2po_unfold.specs.Covering.{Mode};
 ghost use Rattle.c2po_unfold.specs.Environment.{Env, value_in};
 ghost use Rattle.c2po_unfold.specs.Heads.{AreSets, IsHere, HeadsIn, HoldMembers};
@@ -23,6 +23,8 @@ ghost use Rattle.c2po_unfold.specs.Scopes.{MeetsIn, names_of};
 ghost use Rattle.c2po_unfold.specs.Summaries.{IsSummary};
 ghost use Rattle.c2po_unfold.specs.Values.{Value, connected_all, counted, members as members_of};
 ghost use Rattle.c2po_unfold.specs.declared.path.Path.{Path as CasePath};
+ghost use Rattle.c2po_unfold.specs.declared.resolved.Resolved.{Resolved as Expression};
+ghost use Rattle.c2po_unfold.specs.declared.unfolding.Unfolding.{Unfolding as Meanings};
 
 use crate::along::Trail;
 use crate::counting::Counting;
@@ -66,6 +68,48 @@ pub(crate) fn group<T>(members: &[T], start: usize, count: usize) -> Option<&[T]
 /// Whether there is a member after this one.
 fn is_followed<T>(members: &[T], i: usize) -> bool {
     matches!(members.get(i..), Some([_, _, ..]))
+}
+
+/// How many members of a set from member `i` on are the same, as far as that is seen at once: the same variable.
+fn same_members(set: &Head<'_>, i: usize) -> usize
+    ensures some { 0 < result }
+    ensures same { (c : Case) (u : Meanings) (base : Env) (s v w : Value) (j : ℕ)
+        → HeadsIn c u base set.now s → j < result → slice_get (members_of s) i ≡ Some v
+        → slice_get (members_of s) (i + j) ≡ Some w → v ≡ w }
+{
+    match *set {
+        Head::Set(_, _, members) => same_variables(members, i),
+        _ => 1,
+    }
+}
+
+/// How many expressions from one on are the same variable, at most [`TOGETHER`].
+fn same_variables(es: &[Resolved], i: usize) -> usize
+    ensures some { 0 < result }
+    ensures same { (env : Env) (d e : Expression) (j : ℕ) → j < result
+        → slice_get es.now i ≡ Some d → slice_get es.now (i + j) ≡ Some e
+        → resolved_value d env ≡ resolved_value e env }
+{
+    let Some(first) = es.get(i) else {
+        return 1;
+    };
+    let Resolved::Variable(name) = first else {
+        return 1;
+    };
+    let mut count = 1_usize;
+    for j in 1..TOGETHER {
+        let Some(place) = i.checked_add(j) else {
+            break;
+        };
+        let Some(e) = es.get(place) else {
+            break;
+        };
+        if !e.is_variable(name) {
+            break;
+        }
+        count = j + 1;
+    }
+    count
 }
 
 /// How often all of `count` cases are before a case.
@@ -553,7 +597,8 @@ impl Unfolding {
         }
     }
 
-    /// What is known in each case of the body of a quantifier where its variable is member `i` of its set.
+    /// What is known in each case of the body of a quantifier where its variable is member `i` of its set, and where it is one of
+    /// those after it that are the same variable.
     #[cycle(each)]
     fn one_body(
         &self,
@@ -570,10 +615,12 @@ impl Unfolding {
         ensures some { IfOk result (λ r. 0 < r.count) }
     {
         let scope = &self.bound_member(at.depth, &*bodies.name, set, i, &*at.scope)?;
-        let each = self.each(Site { scope, ..at }, cases, bodies.body, room)?;
+        let body = self.each(Site { scope, ..at }, cases, bodies.body, room)?;
+        let count = same_members(set, i);
+        let each = body.repeated(self.alloc, cases.len(), count)?;
         Ok(Ahead {
             start: i,
-            count: 1,
+            count,
             each,
         })
     }

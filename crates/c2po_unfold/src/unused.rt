@@ -54,7 +54,7 @@ fn are_one(counts: &[usize]) -> bool
 
 impl Each {
     /// The same in each of so many rounds of `count` cases.
-    fn repeated(self, alloc: Global, count: usize, rounds: usize) -> Result<Each, Stop>
+    pub(crate) fn repeated(self, alloc: Global, count: usize, rounds: usize) -> Result<Each, Stop>
         ensures { (m : Mode) (i j : ℕ) (v : Value) → i < count → j < rounds
             → KnownFor m self i v → IfOk result (λ r. KnownFor m r (i + count * j) v) }
     {

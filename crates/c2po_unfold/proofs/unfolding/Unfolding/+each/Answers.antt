@@ -15,7 +15,7 @@ use Rattle.c2po_unfold.specs.Resolving.{AllResolved, IsResolved, resolved_bodies
 use Rattle.c2po_unfold.specs.Scopes.{names_of}
 use Rattle.c2po_unfold.specs.Summaries.{IsSummary}
 use Rattle.c2po_unfold.specs.Values.{built, grouped, connected_all, counted, integer, members, truth_value}
-use Rattle.c2po_unfold.proofs.Cases.{binary_meets, binary_same, body_meets, first_case, body_further, varied_here, part_meets, unary_meets, unary_same}
+use Rattle.c2po_unfold.proofs.Cases.{binary_meets, binary_same, body_meets, body_further, varied_here, part_meets, unary_meets, unary_same}
 use Rattle.c2po_unfold.proofs.Columns.{column_bound, column_holds}
 use Rattle.c2po_unfold.proofs.Turnwise.{light_ahead, meets_further, some_light}
 use Rattle.c2po_unfold.proofs.Loops.{bodies_by, bodies_count, body_at, joined_one, meets_within, member_at, none_left}
@@ -125,17 +125,23 @@ each_head-returns-in-Held t c = λ m base env i p inside h. (
 pub one_body-returns : goal.one_body-returns
 one_body-returns t c = record {
   ahead = record {
-    holds = λ m base env i j p s v inside h heads one at.
+    holds = λ m base env i j p s v inside h heads within at.
+        let u = c.args.self.now in
         let k = chosen m (path_of p) in
-        let first : c.args.i + j ≡ c.args.i = omega (arith, one) in
-        let place : i ≡ i + (length c.args.cases.paths.now) * j = first_case i (length c.args.cases.paths.now) j one in
-        let fits = c.in_ok-scope.ensures.fits k base env s v h.fits heads (subst (λ p. slice_get (members s) p ≡ Some v) first at) in
-        subst (λ p. KnownFor m c.in_ok-each.each p (resolved_body c.args.bodies env v)) place
-        (c.in_ok-each.ensures m base (bind c.args.bodies.name.now v env) i p inside
-        (meets_within k c.args.self.now base c.args.at.scope.now c.in_ok-scope.field-0 env c.args.bodies v c.in_ok-scope.ensures.names fits h.resolved));
+        let n = length c.args.cases.paths.now in
+        let own = get_or (members s) c.args.i (truth_value false) in
+        let here : slice_get (members s) c.args.i ≡ Some own =
+        member_at (members s) c.args.i (length (members s)) refl (omega (arith, slice_get_within (members s) (c.args.i + j) v at)) in
+        let same = c.same_members-count.ensures.same k u base s own v j heads within here at in
+        let fits = c.in_ok-scope.ensures.fits k base env s own h.fits heads here in
+        let known = c.in_ok-body.ensures m base (bind c.args.bodies.name.now own env) i p inside
+        (meets_within k u base c.args.at.scope.now c.in_ok-scope.field-0 env c.args.bodies own c.in_ok-scope.ensures.names fits h.resolved) in
+        subst (λ w. KnownFor m c.in_ok-each.each (i + n * j) (resolved_body c.args.bodies env w)) same
+        (subst (λ q. KnownFor m c.in_ok-each.each (i + q * j) (resolved_body c.args.bodies env own)) c.len.ensures
+        (c.in_ok-each.ensures m i j (resolved_body c.args.bodies env own) (subst (λ q. i < q) (sym c.len.ensures) (slice_get_within c.args.cases.paths.now i p inside)) within known));
   };
   start = refl;
-  some = omega arith;
+  some = c.same_members-count.ensures.some;
 }
 
 pub joined_shared-loop-i-init : goal.joined_shared-loop-i-init
