@@ -266,6 +266,23 @@ def chained_over(first, form, count):
     return [first] + [form.replace('@', name) for name in variables(count)]
 
 
+def one_and_two_back(first, second, form):
+    """15 sets: these two, and after them those of one form, in which @ is the variable before, and & the one before that."""
+    names = variables(15)
+    return [first, second] + [form.replace('@', one).replace('&', two) for one, two in zip(names[1:14], names)]
+
+
+def asked_of_all(first, levels, rest):
+    """15 quantifiers over a set, one over each of these variables alone, and those of the rest, whose body uses the last one."""
+    before = variables(levels)
+    return over([first] * levels + ['{%s}' % name for name in before] + rest, '@')
+
+
+def in_braces(name, depth):
+    """Sets of one member within one another, to a depth."""
+    return '{' * depth + name + '}' * depth
+
+
 def nested_members(levels):
     """A definition of quantifiers over two formulas, the first of which is such a quantifier, so many within one another."""
     member = '||'.join(['p'] * 9)
@@ -304,6 +321,7 @@ def apart(count, form):
 PICKED = SIGNALS + 'STRUCT t: { a: bool; };\nDEFINE r:={t(p)};\n'
 OF_SETS = SIGNALS + 'STRUCT t: { f: set<bool>; };\nDEFINE\n'
 PARTED = SIGNALS + 'STRUCT t: { a: bool; };\nSTRUCT u0: { f: set<bool>; };\nDEFINE s:={p};\n'
+NESTED = SIGNALS + 'STRUCT t: { a: bool; };\nSTRUCT u: { s: t; };\nSTRUCT w: { r: u; };\nDEFINE\n'
 UNUSED = SIGNALS + 'DEFINE\ns:={%s};\nz:={%s};\n' % (members(180, '#'), ','.join(map(str, range(1, 33))))
 TWO = '{t(p),t(q)}'
 TWO_SETS = '{t({p}),t({q})}'
@@ -506,6 +524,33 @@ TEXTS = [
     filled('distinct-sets', '50 quantifiers over a field that is a set of one, of one of 60 structs, within nine over two',
            OF_SETS + apart(60, 't({p})'), numbered(over(['{%s}' % members(60, 'e#')] + ['{e0,e1}'] * 9 + ['a.f'] * 50, '@')),
            'FTSPEC p;\n'),
+    filled('written-pairs', '15 quantifiers over two structs with two fields that both hold those of the variable before, in both orders',
+           SIGNALS + 'STRUCT t: { a: bool; b: bool; };\nDEFINE\n',
+           numbered(over(chained_over('{t(p,q),t(q,p)}', '{t(@.b,@.a),t(@.a,@.b)}', 14), '@.a')), 'FTSPEC p;\n'),
+    filled('written-threes', 'nine quantifiers over three structs that all hold the variable before', PICKED,
+           numbered(over(chained_over('{t(p),t(q),t(p)}', '{t(@.a),t(@.a),t(@.a)}', 8), '@.a')), 'FTSPEC p;\n'),
+    filled('written-back', '15 quantifiers over two structs, of which one holds the variable before, and one that before it',
+           PICKED, numbered(over(one_and_two_back(TWO, '{t(a.a),t(a.a)}', '{t(@.a),t(&.a)}'), '@.a')), 'FTSPEC p;\n'),
+    filled('written-deep', '15 quantifiers over two structs within structs, which hold parts of the variable before',
+           NESTED, numbered(over(chained_over('{w(u(t(p))),w(u(t(q)))}', '{w(@.r),w(u(t(@.r.s.a)))}', 14), '@.r.s.a')),
+           'FTSPEC p;\n'),
+    filled('sets-twice', '15 quantifiers over two sets, after the first both the variable before, around one over the last', SIGNALS
+           + 'DEFINE\n', numbered(over(chained_over('{{p},{q}}', '{@,@}', 14) + ['o'], '@')), 'FTSPEC p;\n'),
+    filled('sets-back', 'the same over the variable before and that before it', SIGNALS + 'DEFINE\n',
+           numbered(over(one_and_two_back('{{p},{q}}', '{a,a}', '{@,&}') + ['o'], '@')), 'FTSPEC p;\n'),
+    filled('fields-twice', 'the same over two structs, around one over a field of the last that is a set of one', OF_SETS,
+           numbered(over(chained_over(TWO_SETS, '{@,@}', 14) + ['o.f'], '@')), 'FTSPEC p;\n'),
+    filled('asked-fields', '15 quantifiers over two structs that have names, one over each variable alone, and 45 over a field that '
+           'is a set of one', OF_SETS + apart(2, 't({p})'),
+           numbered(asked_of_all('{e0,e1}', 15, ['%s.f' % name for name in variables(15)] * 3)), 'FTSPEC p;\n'),
+    filled('asked-written', 'the same over structs that are written out', OF_SETS,
+           numbered(asked_of_all(TWO_SETS, 15, ['%s.f' % name for name in variables(15)] * 3)), 'FTSPEC p;\n'),
+    filled('asked-chain', 'the same over sets that have names, and 40, each over the set that the variable before is',
+           SIGNALS + 'DEFINE\n' + apart(2, in_braces('p', 40)),
+           numbered(asked_of_all('{e0,e1}', 15, ['a'] + variables(69)[30:])), 'FTSPEC p;\n'),
+    filled('asked-written-chain', 'the same over sets that are written out, two of 15', SIGNALS + 'DEFINE\n',
+           numbered(over(['{%s,%s}' % (in_braces('p', 40), in_braces('q', 40))] * 2 + ['{p,q}'] * 13
+                         + ['{%s}' % name for name in variables(15)] + ['a'] + variables(69)[30:], '@')), 'FTSPEC p;\n'),
     filled('parted-fields', 'quantifiers over fields of written structs in parts of other such structs, around 50 over a formula',
            PARTED, numbered(parted(7, 50)), 'FTSPEC p;\n'),
     filled('passed-booleans', '90 quantifiers over a field that is a set of one formula, within one over pairs of 181 structs',
