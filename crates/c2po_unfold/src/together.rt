@@ -414,9 +414,8 @@ impl Unfolding {
             → resolved_value e.now env ≡ connected_all op (bodies_of bodies.entry env)
             → IfOk result (λ r. KnownFor m r i (resolved_value e.now env)) }
     {
-        if is_near(at.depth, at.scope, bodies.set, NEAR)
-            && self.are_lone(at.depth, cases, here, draw)?
-        {
+        let near = cases.len() <= FEW || is_near(at.depth, at.scope, bodies.set, NEAR);
+        if near && self.are_lone(at.depth, cases, here, draw)? {
             return self.joined_lone(at, cases, bodies, room);
         }
         if cases.len() > FEW {
