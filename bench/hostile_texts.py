@@ -283,6 +283,16 @@ def in_braces(name, depth):
     return '{' * depth + name + '}' * depth
 
 
+def many_chains(roots, depth):
+    """15 sets, of which the first hold sets within one another, each other variable alone, and from each of those a chain."""
+    deep = '{%s,%s}' % (in_braces('p', depth), in_braces('q', depth))
+    sets = [deep] * roots + ['{p,q}'] * (15 - roots) + ['{%s}' % name for name in variables(15)[roots:]]
+    names = variables(len(sets) + roots * depth)
+    for root in range(roots):
+        sets += [names[root], *names[len(sets):len(sets) + depth - 1]]
+    return sets
+
+
 def nested_members(levels):
     """A definition of quantifiers over two formulas, the first of which is such a quantifier, so many within one another."""
     member = '||'.join(['p'] * 9)
@@ -551,6 +561,12 @@ TEXTS = [
     filled('asked-written-chain', 'the same over sets that are written out, two of 15', SIGNALS + 'DEFINE\n',
            numbered(over(['{%s,%s}' % (in_braces('p', 40), in_braces('q', 40))] * 2 + ['{p,q}'] * 13
                          + ['{%s}' % name for name in variables(15)] + ['a'] + variables(69)[30:], '@')), 'FTSPEC p;\n'),
+    filled('asked-roots', 'the same over four of 15 such sets, 12 over each', SIGNALS + 'DEFINE\n',
+           numbered(over(many_chains(4, 12), '@')), 'FTSPEC p;\n'),
+    filled('asked-long-roots', 'the same over three of them, 20 over each', SIGNALS + 'DEFINE\n',
+           numbered(over(many_chains(3, 20), '@')), 'FTSPEC p;\n'),
+    filled('asked-short-roots', 'the same over six of them, ten over each', SIGNALS + 'DEFINE\n',
+           numbered(over(many_chains(6, 10), '@')), 'FTSPEC p;\n'),
     filled('parted-fields', 'quantifiers over fields of written structs in parts of other such structs, around 50 over a formula',
            PARTED, numbered(parted(7, 50)), 'FTSPEC p;\n'),
     filled('passed-booleans', '90 quantifiers over a field that is a set of one formula, within one over pairs of 181 structs',
