@@ -14,6 +14,8 @@ ghost use Rattle.c2po_unfold.specs.Heads.{IsEntry};
 ghost use Rattle.c2po_unfold.specs.Holding.{Holds};
 ghost use Rattle.c2po_unfold.specs.Resolving.{AllResolved, IsPlace, resolved_value, resolved_values};
 ghost use Rattle.c2po_unfold.specs.Scopes.{FitsIn, MeetsIn, names_of};
+ghost use Rattle.c2po_unfold.specs.Summaries.{IsOfLeaf};
+ghost use Rattle.c2po_unfold.specs.declared.unfolding.Unfolding.{Unfolding as Table};
 ghost use Rattle.c2po_unfold.specs.Values.{Value, built, grouped, members, picked};
 
 use crate::Unfolding;
@@ -23,6 +25,7 @@ use crate::path::Cases;
 use crate::resolved::{Hint, Resolved};
 use crate::room::Room;
 use crate::scope::{Choice, Scope, Site};
+use crate::summary::Summary;
 use crate::values::Stored;
 use mltl_base::Name;
 
@@ -43,6 +46,18 @@ pub enum Trail<'a> {
         number: usize,
         next: &'a Trail<'a>,
     },
+}
+
+/// What is known in each case of an integer or a formula of which this is known; it has no parts.
+fn each_covered(summary: &Summary, trail: &Trail<'_>) -> Result<Each, Stop>
+    ensures { (m : Mode) (c : Case) (u : Table) (base : Env) (i : ℕ) (v w : Value)
+        → IsOfLeaf m summary.now v → IsAlong c u base trail.now v w
+        → IfOk result (λ r. KnownFor m r i w) }
+{
+    match trail {
+        Trail::End => Ok(Each::Same(*summary)),
+        Trail::Field { .. } | Trail::Member { .. } => Err(Stop::Alone),
+    }
 }
 
 impl Unfolding {
@@ -196,7 +211,8 @@ impl Unfolding {
             → IfOk result (λ r. KnownFor m r i v) }
     {
         match entry {
-            Scope::Top | Scope::Covered { .. } => Err(Stop::Alone),
+            Scope::Top => Err(Stop::Alone),
+            Scope::Covered { summary, .. } => each_covered(summary, trail),
             Scope::Held { stored, .. } => self.each_end(at.depth, *stored, trail),
             Scope::Open { expr, within, .. } => {
                 let own = Site {

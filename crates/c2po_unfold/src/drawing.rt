@@ -13,7 +13,7 @@ ghost use Rattle.c2po_unfold.specs.Environment.{Env, fields_in, value_in};
 ghost use Rattle.c2po_unfold.specs.Heads.{AreSets, HeadsIn, IsEntry, IsHere, IsPartOf, IsShared};
 ghost use Rattle.c2po_unfold.specs.Holding.{Holds};
 ghost use Rattle.c2po_unfold.specs.Resolving.{IsBound, IsPlace, resolved_value};
-ghost use Rattle.c2po_unfold.specs.Scopes.{FitsIn, MeetsIn, names_of};
+ghost use Rattle.c2po_unfold.specs.Scopes.{MeetsIn, names_of};
 ghost use Rattle.c2po_unfold.specs.Values.{Value, members, picked};
 ghost use Rattle.c2po_unfold.specs.declared.unfolding.Unfolding.{Unfolding as Table};
 
@@ -23,7 +23,6 @@ use crate::fault::deeper;
 use crate::path::{Cases, Path};
 use crate::resolved::{Hint, Resolved, Row};
 use crate::scope::{Choice, Draw, Head, Led, Scope, Site};
-use crate::together::FEW;
 use crate::values::Stored;
 use mltl_base::Name;
 

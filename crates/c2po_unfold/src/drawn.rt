@@ -3,7 +3,7 @@
 //! A member that is a struct's value or a set is listed nowhere: each case draws one, and an expression over the variable is
 //! looked at once for all cases that draw the same members.
 
-ghost use Rattle.std.specs.Prelude.{◌≡◌, ◌+◌, ◌*◌, ◌<◌, ◌/◌, ℕ, ◌++◌, ◌∷◌, [], Some, IfOk, IfSome, length, slice_get};
+ghost use Rattle.std.specs.Prelude.{◌≡◌, ◌+◌, ◌*◌, ◌<◌, ◌/◌, ℕ, Some, IfOk, IfSome, slice_get};
 ghost use Rattle.c2po_unfold.specs.declared.path.Path.{Path as CasePath};
 ghost use Rattle.c2po_unfold.specs.declared.path.Turn.{Turn as CaseTurn};
 ghost use Rattle.c2po_unfold.specs.Ahead.{IsDrawnAhead, IsTold, KnownFor};
@@ -12,26 +12,22 @@ ghost use Rattle.c2po_unfold.specs.Bodies.{MeetsBodyIn};
 ghost use Rattle.c2po_unfold.specs.Cases.{IsDrawn, chosen, path_of};
 ghost use Rattle.c2po_unfold.specs.Covering.{Mode};
 ghost use Rattle.c2po_unfold.specs.Environment.{Env};
-ghost use Rattle.c2po_unfold.specs.Heads.{HeadsIn};
-ghost use Rattle.c2po_unfold.specs.Resolving.{IsResolved, bodies_of, resolved_body, resolved_value};
-ghost use Rattle.c2po_unfold.specs.Scopes.{FitsIn, MeetsIn, names_of};
+ghost use Rattle.c2po_unfold.specs.Resolving.{resolved_body, resolved_value};
+ghost use Rattle.c2po_unfold.specs.Scopes.{MeetsIn};
 ghost use Rattle.c2po_unfold.specs.Summaries.{IsSummary};
-ghost use Rattle.c2po_unfold.specs.Values.{Value, connected_all, counted};
+ghost use Rattle.c2po_unfold.specs.Values.{Value};
 
 use crate::Unfolding;
 use crate::along::Trail;
-use crate::drawing::Shared;
 use crate::each::{Each, Stop, add};
 use crate::fault::deeper;
 use crate::known::Ahead;
-use crate::lanes::Sets;
 use crate::path::{Cases, Path, Turn};
 use crate::resolved::{Quantified, Resolved};
 use crate::room::Room;
-use crate::scope::{Draw, Head, Scope, Site};
+use crate::scope::{Draw, Scope, Site};
 use crate::summary::Summary;
 use crate::together::group;
-use mltl_base::{CountOp, LogicOp};
 use std::alloc::Global;
 
 /// The members that cases draw in rounds: from member `start` on, each in as many cases as there are.
@@ -96,7 +92,8 @@ impl Unfolding {
         }
     }
 
-    /// What is known in each case of an expression, by those cases that draw what the first one does, and by all others.
+    /// What is known in each case of a part of an expression's value, by those cases that draw what the first one does, and by all
+    /// others.
     #[cycle(each)]
     pub(crate) fn each_parted(
         &self,
@@ -137,7 +134,7 @@ impl Unfolding {
         self.merged(at.scope, cases, e, trail, like, others)
     }
 
-    /// What is known in each case of an expression, by so many first cases, and by all others.
+    /// What is known in each case of a part of an expression's value, by so many first cases, and by all others.
     #[cycle(each)]
     fn each_split(
         &self,
@@ -160,8 +157,8 @@ impl Unfolding {
         Each::followed(self.alloc, &some, first.len(), &rest, others.len())
     }
 
-    /// What is known of an expression in each case by what is known of it in those of two lists of paths, in which the cases follow
-    /// one another.
+    /// What is known of a part of an expression's value in each case by what is known of it in those of two lists of paths, in which
+    /// the cases follow one another.
     fn merged(
         &self,
         scope: &Scope<'_>,

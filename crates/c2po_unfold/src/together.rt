@@ -3,24 +3,19 @@
 //! A quantifier over a set that is the same in all cases goes over its members in each of them. One over sets that differ goes
 //! over the members of the first case, then over those of the second one, and so on.
 
-ghost use Rattle.std.specs.Prelude.{◌≡◌, ◌+◌, ◌*◌, ◌<◌, ◌/◌, ◌%◌, ◌≤◌, ℕ, ◌++◌, ◌∷◌, [], List as Seq, Some, IfOk, IfErr, IfSome, OnOk, length, slice_get};
-ghost use Rattle.mltl_base.specs.declared.operators.LogicOp.{LogicOp as Connective};
+ghost use Rattle.std.specs.Prelude.{◌≡◌, ◌+◌, ◌*◌, ◌<◌, ◌/◌, ◌≤◌, ℕ, Some, IfOk, IfErr, IfSome, length, slice_get};
 ghost use Rattle.c2po_unfold.specs.declared.fault.UnfoldFault.TheVariants.{Memory};
-ghost use Rattle.c2po_unfold.specs.declared.operators.BinaryOp.TheVariants.{Logic};
 ghost use Rattle.c2po_unfold.specs.declared.scope.Head.TheVariants.{Held as HeldSet};
-ghost use Rattle.c2po_unfold.specs.declared.summary.Summary.{Summary as Found};
 ghost use Rattle.c2po_unfold.specs.declared.values.Stored.{Stored as Held};
-ghost use Rattle.c2po_unfold.specs.Ahead.{AreLight, AreListed, GatheredFor, HasMember, IsAhead, IsAheadIn, IsListed, IsTurnAhead, KnownFor, RowsLead, known_at};
+ghost use Rattle.c2po_unfold.specs.Ahead.{AreLight, AreListed, GatheredFor, HasMember, IsAhead, IsAheadIn, IsTurnAhead, KnownFor, RowsLead};
 ghost use Rattle.c2po_unfold.specs.Bodies.{MeetsBodyIn};
 ghost use Rattle.c2po_unfold.specs.Cases.{Case, IsOneOf, IsVaried, chosen, path_of};
 ghost use Rattle.c2po_unfold.specs.Covering.{Mode};
 ghost use Rattle.c2po_unfold.specs.Environment.{Env, value_in};
-ghost use Rattle.c2po_unfold.specs.Heads.{AreSets, IsHere, HeadsIn, HoldMembers};
+ghost use Rattle.c2po_unfold.specs.Heads.{AreSets, IsHere, HeadsIn};
 ghost use Rattle.c2po_unfold.specs.Holding.{Holds};
-ghost use Rattle.c2po_unfold.specs.Operators.{binary_value, unary_value};
 ghost use Rattle.c2po_unfold.specs.Resolving.{IsBound, bodies_of, resolved_bodies, resolved_body, resolved_value};
 ghost use Rattle.c2po_unfold.specs.Scopes.{MeetsIn, names_of};
-ghost use Rattle.c2po_unfold.specs.Summaries.{IsSummary};
 ghost use Rattle.c2po_unfold.specs.Values.{Value, connected_all, counted, members as members_of};
 ghost use Rattle.c2po_unfold.specs.declared.path.Path.{Path as CasePath};
 ghost use Rattle.c2po_unfold.specs.declared.resolved.Resolved.{Resolved as Expression};
@@ -35,7 +30,6 @@ use crate::fault::deeper;
 use crate::known::Ahead;
 use crate::lanes::Sets;
 use crate::lone::{NEAR, is_near};
-use crate::operators::{BinaryOp, UnaryOp};
 use crate::path::{Cases, Path};
 use crate::resolved::{Quantified, Resolved, Row};
 use crate::room::Room;
@@ -44,7 +38,6 @@ use crate::summary::Summary;
 use crate::values::Stored;
 use crate::{UnfoldFault, Unfolding};
 use mltl_base::{CountOp, LogicOp, Name};
-use std::alloc::{AllocError, AllocFailed, Global};
 
 /// How many cases are looked at together at most.
 pub(crate) const TOGETHER: usize = 64;

@@ -1,6 +1,6 @@
 //! The stored values that expressions lead to, in several cases at once.
 
-ghost use Rattle.std.specs.Prelude.{◌≡◌, ℕ, Some, IfOk, IfSome, OnOk, length, slice_get};
+ghost use Rattle.std.specs.Prelude.{◌≡◌, ℕ, Some, IfOk, OnOk, length, slice_get};
 ghost use Rattle.c2po_unfold.specs.declared.path.Path.{Path as CasePath};
 ghost use Rattle.c2po_unfold.specs.Ahead.{AreListed, AreStored, HoldsFor, KnownFor, RowsLead};
 ghost use Rattle.c2po_unfold.specs.Cases.{Case, IsVaried, chosen, path_of};
