@@ -283,10 +283,11 @@ def in_braces(name, depth):
     return '{' * depth + name + '}' * depth
 
 
-def many_chains(roots, depth):
-    """15 sets, of which the first hold sets within one another, each other variable alone, and from each of those a chain."""
-    deep = '{%s,%s}' % (in_braces('p', depth), in_braces('q', depth))
-    sets = [deep] * roots + ['{p,q}'] * (15 - roots) + ['{%s}' % name for name in variables(15)[roots:]]
+def many_chains(roots, depth, ways=2, twos=None):
+    """Sets, of which the first hold so many sets within one another, each other variable alone, and from each of those a chain."""
+    twos = 15 - roots if twos is None else twos
+    deep = '{%s}' % ','.join(in_braces('pq'[way % 2], depth) for way in range(ways))
+    sets = [deep] * roots + ['{p,q}'] * twos + ['{%s}' % name for name in variables(roots + twos)[roots:]]
     names = variables(len(sets) + roots * depth)
     for root in range(roots):
         sets += [names[root], *names[len(sets):len(sets) + depth - 1]]
@@ -567,6 +568,8 @@ TEXTS = [
            numbered(over(many_chains(3, 20), '@')), 'FTSPEC p;\n'),
     filled('asked-short-roots', 'the same over six of them, ten over each', SIGNALS + 'DEFINE\n',
            numbered(over(many_chains(6, 10), '@')), 'FTSPEC p;\n'),
+    filled('asked-threes', 'the same over two of 13 sets, 25 over each, which hold three such sets', SIGNALS + 'DEFINE\n',
+           numbered(over(many_chains(2, 25, ways=3, twos=11), '@')), 'FTSPEC p;\n'),
     filled('parted-fields', 'quantifiers over fields of written structs in parts of other such structs, around 50 over a formula',
            PARTED, numbered(parted(7, 50)), 'FTSPEC p;\n'),
     filled('passed-booleans', '90 quantifiers over a field that is a set of one formula, within one over pairs of 181 structs',

@@ -45,8 +45,8 @@ leads_holds (Build' y p es) u base env xs x s t h agree k = absurd h
 leads_holds (Group' p es) u base env xs x s t h agree k = absurd h
 leads_holds (Unary' op p a) u base env xs x s t h agree k = absurd h
 leads_holds (Binary' op p a q b) u base env xs x s t h agree k = absurd h
-leads_holds (Joined' op y p a q e) u base env xs x s t h agree k = absurd h
-leads_holds (Counted' op m y p a q e) u base env xs x s t h agree k = absurd h
+leads_holds (Joined' op y r p a q e) u base env xs x s t h agree k = absurd h
+leads_holds (Counted' op m y r p a q e) u base env xs x s t h agree k = absurd h
 
 -- a column's variable is there
 pub column_bound : (m : Case) (u : Unfolding) (base : Env) (scope : Scope) (env : Env) (d e : Resolved) (p : _) (x : List ℕ) (rows : Vec Row Global) →

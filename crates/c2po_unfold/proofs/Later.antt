@@ -11,8 +11,8 @@ use Rattle.c2po_unfold.specs.declared.resolved.Resolved.{Number, Truth, Known as
 use Rattle.c2po_unfold.specs.declared.resolved.Resolved.{Column', Unary', Binary', Joined', Counted'}
 use Rattle.c2po_unfold.specs.declared.resolved.Row.{Row}
 use Rattle.c2po_unfold.specs.declared.scope.Draw.{Draw}
-use Rattle.c2po_unfold.specs.declared.scope.Draw.TheVariants.{First, Turned}
-use Rattle.c2po_unfold.specs.declared.scope.Scope.{Scope, Top, Open', Held', Covered', Varied', Drawn'}
+use Rattle.c2po_unfold.specs.declared.scope.Draw.TheVariants.{Chosen, First, Marked, Turned}
+use Rattle.c2po_unfold.specs.declared.scope.Scope.{Scope, Top, Open', Held', Covered', Varied', Drawn', Parted'}
 use Rattle.c2po_unfold.specs.declared.scope.Head.{Head}
 use Rattle.c2po_unfold.specs.declared.scope.Head.TheVariants as head
 use Rattle.c2po_unfold.specs.declared.unfolding.Unfolding.{Unfolding}
@@ -110,8 +110,8 @@ leads_later (Part' p e f hint) old new base xs x s t g h =
     (h.0, leads_later e old new base xs x s h.0 g h.1, part_later old new base xs f h.0 t g h.2)
 leads_later (Unary' op p a) old new base xs x s t g h = h
 leads_later (Binary' op p a q b) old new base xs x s t g h = h
-leads_later (Joined' op y p a q e) old new base xs x s t g h = h
-leads_later (Counted' op m y p a q e) old new base xs x s t g h = h
+leads_later (Joined' op y r p a q e) old new base xs x s t g h = h
+leads_later (Counted' op m y r p a q e) old new base xs x s t g h = h
 
 pub rows_later : (old new : Unfolding) (base : Env) (xs : List (List ℕ)) (x : List ℕ) (e : Resolved) (rows : List Row) → IsLater old new →
     AreRows old base xs x e rows → AreRows new base xs x e rows
@@ -132,9 +132,9 @@ mutual
   resolved_later old new base xs (Unary' op p a) g h = resolved_later old new base xs a g h
   resolved_later old new base xs (Binary' op p a q b) g h =
       (resolved_later old new base xs a g h.0, resolved_later old new base xs b g h.1)
-  resolved_later old new base xs (Joined' op x p s q e) g h =
+  resolved_later old new base xs (Joined' op x r p s q e) g h =
       (resolved_later old new base xs s g h.0, resolved_later old new base (x ∷ xs) e g h.1)
-  resolved_later old new base xs (Counted' op m x p s q e) g h =
+  resolved_later old new base xs (Counted' op m x r p s q e) g h =
       (resolved_later old new base xs s g h.0, resolved_later old new base (x ∷ xs) e g h.1)
 
   are_resolved_later : (old new : Unfolding) (base : Env) (xs : List (List ℕ)) {n : _} (es : Row_of-Resolved n) → IsLater old new → AreResolved old base xs es → AreResolved new base xs es
@@ -171,6 +171,7 @@ fits_later m base (Drawn' x e p within draw q outer) old new env g h = (
   fits_later m base outer old new h.2 g h.6,
   h.7,
 )
+fits_later m base (Parted' x marks level p like q others r outer) old new env g h = absurd h.3
 
 -- the names of an expression within variables are resolved later too
 pub meets_later : (m : Mode) (base : Env) (scope : Scope) (old new : Unfolding) (env : Env) (e : Resolved) → IsLater old new →
@@ -210,7 +211,9 @@ leaf_covered m s v h = (h.0, h.1, record { weight = h.2.weight; fact = says_cove
 
 drawn_covering : (m : Mode) (draw : Draw) (s v : Value) → IsDrawn (only m) draw s v → IsDrawn (only covering) draw s v
 drawn_covering m First s v h = h
-drawn_covering m (Turned turns level) s v h = h
+drawn_covering m (Turned turns level) s v h = absurd h
+drawn_covering m (Chosen choice) s v h = absurd h
+drawn_covering m (Marked marks level) s v h = absurd h
 
 pub fits_covering : (m : Mode) (base : Env) (scope : Scope) (u : Unfolding) (env : Env) → Fits m u base scope env → Fits covering u base scope env
 fits_covering m base Top u env h = h
@@ -230,6 +233,7 @@ fits_covering m base (Drawn' x e p within draw q outer) u env h = (
   fits_covering m base outer u h.2 h.6,
   h.7,
 )
+fits_covering m base (Parted' x marks level p like q others r outer) u env h = absurd h.3
 
 pub meets_covering : (m : Mode) (base : Env) (scope : Scope) (u : Unfolding) (env : Env) (e : Resolved) →
     Meets m u base scope env e → Meets covering u base scope env e
@@ -253,6 +257,9 @@ fits_agree m u base (Varied' x ms q outer) env h =
 fits_agree m u base (Drawn' x e p within draw q outer) env h =
     subst (λ f. Agree (x.now ∷ names_of outer) base f) (sym h.7)
     (agree_bind x.now h.0 (names_of outer) base h.2 (fits_agree m u base outer h.2 h.6))
+fits_agree m u base (Parted' x marks level p like q others r outer) env h =
+    subst (λ f. Agree (x.now ∷ names_of outer) base f) (sym h.7)
+    (agree_bind x.now h.0 (names_of outer) base h.1 (fits_agree m u base outer h.1 h.6))
 
 pub fits_base : (m : Case) (u : Unfolding) (base : Env) (scope : Scope) (env : Env) → FitsIn m u base scope env → StandsFor u base
 fits_base m u base Top env h = h.0
@@ -261,6 +268,7 @@ fits_base m u base (Held' x s i q outer) env h = fits_base m u base outer h.1 h.
 fits_base m u base (Covered' x s q outer) env h = fits_base m u base outer h.1 h.3
 fits_base m u base (Varied' x ms q outer) env h = fits_base m u base outer h.1 h.3
 fits_base m u base (Drawn' x e p within draw q outer) env h = fits_base m u base outer h.2 h.6
+fits_base m u base (Parted' x marks level p like q others r outer) env h = fits_base m u base outer h.1 h.6
 
 -- without variables, names mean what is declared
 pub meets_top : (m : Mode) (u : Unfolding) (base : Env) (e : Resolved) → StandsFor u base → IsResolved u base [] e → Meets m u base Top base e

@@ -1,6 +1,6 @@
 -- Parts and members by their places.
 
-use Rattle.std.proofs.Common.{◌≡◌, ℕ, zero, suc, true, Some, List, [], ◌∷◌, map, length, get_or, slice_get, ◌++◌, ◌<◌, refl, sym, subst, ap, ◌∙◌}
+use Rattle.std.proofs.Common.{◌≡◌, ℕ, zero, suc, true, Some, List, [], ◌∷◌, map, length, get_or, slice_get, ◌++◌, ◌<◌, refl, sym, subst, ap, ◌∙◌, arith}
 use Rattle.std.proofs.lemmas.Option.{slice_get_read}
 use Rattle.c2po_nodes.proofs.Places.{get_last}
 use Rattle.c2po_unfold.specs.declared.resolved.Resolved.{Resolved, Number, Truth, Known, Found', Variable, Build', Group', Part'}
@@ -73,8 +73,8 @@ operation_is_leaf (Group' p es) env h = cc
 operation_is_leaf (Part' p e x hint) env h = cc
 operation_is_leaf (Unary' op p a) env h = record { of = _; is = refl }
 operation_is_leaf (Binary' op p a q b) env h = record { of = _; is = refl }
-operation_is_leaf (Joined' op x p s q e) env h = record { of = _; is = refl }
-operation_is_leaf (Counted' op m x p s q e) env h = record { of = _; is = refl }
+operation_is_leaf (Joined' op x r p s q e) env h = record { of = _; is = refl }
+operation_is_leaf (Counted' op m x r p s q e) env h = record { of = _; is = refl }
 
 -- what was looked up in a slice stands in the list
 pub found_at : {A : Type 0} (xs ys : List A) (i : ℕ) (x : A) → xs ≡ ys → i < length xs → x ≡ get_or xs i x → slice_get ys i ≡ Some x
@@ -100,3 +100,9 @@ store_fault (more v vs) u ss h =
     ap stored_fault h.2
     ∙ (ap (λ f. or_later f (stored_fault h.1)) (holds_fault v u h.0 h.3)
     ∙ ap (λ f. or_later (value_fault v) f) (store_fault vs u h.1 h.4))
+
+-- a list of one value
+pub single : (vs : List Value) → length vs ≡ 1 → (v : Value) × (vs ≡ v ∷ [])
+single [] one = absurd (cc)
+single (v ∷ []) one = (v, refl)
+single (v ∷ w ∷ vs) one = absurd (omega (arith, one))

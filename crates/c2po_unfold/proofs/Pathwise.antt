@@ -122,6 +122,15 @@ variable_bound c u base scope env e x h is = subst (IsResolved u base (names_of 
 pub variable_same : (env : Env) (e : Resolved) (x : List ℕ) → e ≡ Variable x → resolved_value e env ≡ value_in (env x)
 variable_same env e x is = ap (λ d. resolved_value d env) is
 
+-- a variable that is near is an expression with that value
+pub near_here : (c : Case) (u : Unfolding) (base : Env) (scope : Scope) (env : Env) (e : Resolved) (x : List ℕ) (v : Value) → e ≡ Variable x →
+    FitsIn c u base scope env → IsBound (names_of scope) x → v ≡ value_in (env x) → (g : Env) × MeetsIn c u base scope g e × (v ≡ resolved_value e g)
+near_here c u base scope env e x v is fits bound same = (
+  env,
+  record { fits = fits; resolved = subst (IsResolved u base (names_of scope)) (sym is) bound },
+  same ∙ sym (variable_same env e x is),
+)
+
 -- the names of a column's expression are resolved, and its value is that of the column
 pub column_meets : (c : Case) (u : Unfolding) (base : Env) (scope : Scope) (env : Env) (d e f : Resolved) (p : _) (x : List ℕ) (rows : Vec Row Global) →
     MeetsIn c u base scope env d → d ≡ Column' p e x rows → f ≡ e → MeetsIn c u base scope env f

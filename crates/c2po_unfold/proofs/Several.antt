@@ -18,6 +18,7 @@ use Rattle.mltl_base.specs.declared.operators.CompareOp.{CompareOp}
 use Rattle.mltl_base.specs.declared.operators.LogicOp.{LogicOp}
 use Rattle.c2po_unfold.specs.declared.resolved.Resolved.{Resolved}
 use Rattle.c2po_unfold.specs.declared.scope.Member.{Member}
+use Rattle.c2po_unfold.specs.declared.scope.Member.TheVariants as member
 use Rattle.c2po_unfold.specs.declared.scope.Scope.{Scope}
 use Rattle.c2po_unfold.specs.declared.summary.Summary.{Summary}
 use Rattle.c2po_unfold.specs.declared.unfolding.Unfolding.{Unfolding}
@@ -198,27 +199,29 @@ lent_is xs i None F h f = tt
 pub listed_none : (each : Each) (old : List Member) → IsListed each 0 old old
 listed_none each old = record { count = omega arith; kept = λ k x at. at; listed = λ i inside. absurd (omega (arith, inside)) }
 
-pub listed_more : (each : Each) (i : ℕ) (old now new : List Member) (x : Member) → IsListed each i old now → new ≡ now ++ x ∷ [] →
-    known_at each i ≡ Some x.summary → x.stored ≡ None → IsListed each (i + 1) old new
-listed_more each i old now new x h longer known unstored = record {
-  count = ap length longer ∙ (length-append now (x ∷ []) ∙ omega (arith, h.count));
+pub listed_more : (each : Each) (i : ℕ) (old now new : List Member) (s : Summary) → IsListed each i old now → new ≡ now ++ member.Known s ∷ [] →
+    known_at each i ≡ Some s → IsListed each (i + 1) old new
+listed_more each i old now new s h longer known = record {
+  count = ap length longer ∙ (length-append now (member.Known s ∷ []) ∙ omega (arith, h.count));
   kept = λ k y at. further k y (h.kept k y at);
   listed = λ j inside. by j (or_last j i inside);
 }
   where
+    x : Member
+    x = member.Known s
+
     further : (k : ℕ) (y : Member) → slice_get now k ≡ Some y → slice_get new k ≡ Some y
     further k y at = subst (λ xs. slice_get xs k ≡ Some y) (sym longer) (get_left now (x ∷ []) k y at)
 
-    by : (j : ℕ) → (j < i) ⊎ (j ≡ i) → (y : Member) × (slice_get new (length old + j) ≡ Some y) × (known_at each j ≡ Some y.summary) × (y.stored ≡ None)
+    by : (j : ℕ) → (j < i) ⊎ (j ≡ i) → (r : Summary) × (slice_get new (length old + j) ≡ Some (member.Known r)) × (known_at each j ≡ Some r)
     by j (inl inside) =
         let g = h.listed j inside in
-        (g.0, further (length old + j) g.0 g.1, g.2, g.3)
+        (g.0, further (length old + j) (member.Known g.0) g.1, g.2)
     by j (inr last) =
         let place : length old + j ≡ length now = omega (arith, h.count, last) in (
-          x,
+          s,
           subst (λ xs. slice_get xs (length old + j) ≡ Some x) (sym longer) (subst (λ k. slice_get (now ++ x ∷ []) k ≡ Some x) (sym place) (get_last now x)),
           ap (known_at each) last ∙ known,
-          unstored,
         )
 
 -- what is known of the first expressions, and of one more
@@ -250,11 +253,8 @@ are_listed_more u scope paths es t e old new each h at more known = record {
         let g = more.listed i (slice_get_within paths i p inside) in
         let place : length old + i ≡ i + n * j = subst (λ k. length old + i ≡ i + n * k) (sym last) (omega (arith, h.count)) in
         let own = known m base env i p inside (subst (λ x. MeetsIn (chosen m (path_of p)) u base scope env x) (sym same) meets) in
-        let is = subst (λ x. IsSummary m g.0.summary (resolved_value x env)) same (known_here m each i (resolved_value e env) g.0.summary own g.2) in (
-          g.0,
-          subst (λ k. slice_get new k ≡ Some g.0) place g.1,
-          record { known = is; holds = λ s stored. cc },
-        )
+        let is = subst (λ x. IsSummary m g.0 (resolved_value x env)) same (known_here m each i (resolved_value e env) g.0 own g.2) in
+        (member.Known g.0, subst (λ k. slice_get new k ≡ Some (member.Known g.0)) place g.1, is)
 
 -- the first of these are the same
 pub record AreSame {A : Type 0} (s : A) (i : ℕ) (all : List A) : Type 0 where

@@ -1,6 +1,6 @@
 -- Members that cases draw.
 
-use Rattle.std.proofs.Common.{◌≡◌, ℕ, ◌+◌, ◌*◌, ◌/◌, ◌<◌, ◌≤◌, Bor, false, get_or, Some, List, [], ◌∷◌, ◌++◌, ◌⊎◌, inl, inr, length, slice_get, sym, subst, ap, ◌∙◌, arith}
+use Rattle.std.proofs.Common.{◌≡◌, ℕ, ◌+◌, ◌*◌, ◌/◌, ◌<◌, ◌≤◌, Bor, Bool, true, false, get_or, Option, Some, IfSome, List, [], ◌∷◌, ◌++◌, ◌⊎◌, inl, inr, length, slice_get, sym, subst, ap, ◌∙◌, arith}
 use Rattle.std.proofs.lemmas.Bool.{cases_lt}
 use Rattle.std.proofs.lemmas.List.{length-append}
 use Rattle.std.proofs.Math.Nat.{mul-le-mul_left, mul-suc}
@@ -16,10 +16,11 @@ use Rattle.c2po_unfold.specs.declared.resolved.Resolved.{Resolved, Truth}
 use Rattle.c2po_unfold.specs.declared.scope.Head.{Head}
 use Rattle.c2po_unfold.specs.declared.scope.Head.TheVariants as head
 use Rattle.c2po_unfold.specs.declared.scope.Member.{Member}
+use Rattle.c2po_unfold.specs.declared.scope.Choice.{Choice}
 use Rattle.c2po_unfold.specs.declared.scope.Draw.{Draw}
 use Rattle.c2po_unfold.specs.declared.scope.Scope.{Scope}
 use Rattle.c2po_unfold.specs.declared.unfolding.Unfolding.{Unfolding}
-use Rattle.c2po_unfold.specs.Cases.{IsDrawn, IsMember, IsReached, chosen, path_of}
+use Rattle.c2po_unfold.specs.Cases.{IsAmong, IsDrawn, IsMarked, IsMember, IsReached, IsSplit, IsVaried, chosen, path_of}
 use Rattle.c2po_unfold.specs.Covering.{Mode}
 use Rattle.c2po_unfold.specs.Environment.{Env}
 use Rattle.c2po_unfold.specs.Along.{Reaches}
@@ -72,22 +73,70 @@ meets_further m old new level number u base scope env e reached h = record {
   resolved = h.resolved;
 }
 
--- the first paths have this number at a level
-pub record HaveNumber (paths : List Path) (level number i : ℕ) : Type 0 where
-  pub each : (j : ℕ) (p : Path) → j < i → slice_get paths j ≡ Some p → slice_get (path_of p) level ≡ Some number
+-- each of the first paths is such
+pub record AreSoFar (paths : List Path) (i : ℕ) (Is : Path → Type 0) : Type 0 where
+  pub each : (j : ℕ) (p : Path) → j < i → slice_get paths j ≡ Some p → Is p
 
-pub number_none : (paths : List Path) (level number : ℕ) → HaveNumber paths level number 0
-number_none paths level number = record { each = λ j p inside. absurd (omega (arith, inside)) }
+pub so_far_none : (paths : List Path) (Is : Path → Type 0) → AreSoFar paths 0 Is
+so_far_none paths Is = record { each = λ j p inside. absurd (omega (arith, inside)) }
 
-pub number_more : (paths : List Path) (level number i : ℕ) (own : Path) → HaveNumber paths level number i → slice_get paths i ≡ Some own →
-    slice_get (path_of own) level ≡ Some number → HaveNumber paths level number (i + 1)
-number_more paths level number i own h at here = record { each = λ j p inside there. by j p there (or_last j i inside) }
+-- one more, where those before are such too
+pub so_far_more : (paths : List Path) (i : ℕ) (own : Path) (Was Is : Path → Type 0) → AreSoFar paths i Was → ((p : Path) → Was p → Is p) →
+    slice_get paths i ≡ Some own → Is own → AreSoFar paths (i + 1) Is
+so_far_more paths i own Was Is h further at here = record { each = λ j p inside there. by j p there (or_last j i inside) }
   where
-    by : (j : ℕ) (p : Path) → slice_get paths j ≡ Some p → (j < i) ⊎ (j ≡ i) → slice_get (path_of p) level ≡ Some number
-    by j p there (inl inside) = h.each j p inside there
-    by j p there (inr last) =
-        let same : own ≡ p = same_Some own p (sym at ∙ subst (λ k. slice_get paths k ≡ Some p) last there) in
-        subst (λ (r : Path). slice_get (path_of r) level ≡ Some number) same here
+    by : (j : ℕ) (p : Path) → slice_get paths j ≡ Some p → (j < i) ⊎ (j ≡ i) → Is p
+    by j p there (inl inside) = further p (h.each j p inside there)
+    by j p there (inr last) = subst Is (same_Some own p (sym at ∙ subst (λ k. slice_get paths k ≡ Some p) last there)) here
+
+-- what a case chooses is this stored value
+abbrev pub Choose : Choice → Stored → Path → Type 0
+Choose choice s p = (m : Mode) (u : Unfolding) (v : Value) → IsVaried (chosen m (path_of p)) u choice v → Holds u s v
+
+-- whether the number of a case at a level is marked is this
+abbrev pub Mark : (level : ℕ) (marks : List Bool) (b : Bool) → Path → Type 0
+Mark level marks b p = (m : Mode) → IsMarked (chosen m (path_of p)) level marks b
+
+-- a path among some is among more
+pub among_more : (p own : Path) (paths new : List Path) → new ≡ paths ++ own ∷ [] → IsAmong p paths → IsAmong p new
+among_more p own paths new longer h = (h.0, subst (λ xs. slice_get xs h.0 ≡ Some p) (sym longer) (get_left paths (own ∷ []) h.0 p h.1))
+
+-- the last one is among them
+pub among_last : (own : Path) (paths new : List Path) → new ≡ paths ++ own ∷ [] → IsAmong own new
+among_last own paths new longer = (length paths, subst (λ xs. slice_get xs (length paths) ≡ Some own) (sym longer) (get_last paths own))
+
+-- what was found of a mark is so
+pub mark_found : (o : Option Bool) (b d : Bool) (level : ℕ) (marks : List Bool) (p : Path) →
+    ((m : Mode) → IfSome o (λ (a : Bool). IsMarked (chosen m (path_of p)) level marks a)) → o ≡ Some b → b ≡ d → Mark level marks d p
+mark_found o b d level marks p h found is m =
+    subst (λ (a : Bool). IsMarked (chosen m (path_of p)) level marks a) is (subst (λ x. IfSome x (λ (a : Bool). IsMarked (chosen m (path_of p)) level marks a)) found (h m))
+
+-- each path is in its part, in any mode
+abbrev pub AreSplit : (level : ℕ) (marks : List Bool) (like others : List Path) → Path → Type 0
+AreSplit level marks like others p = (m : Mode) → IsSplit m p level marks like others
+
+split_further : (p : Path) (level : ℕ) (marks : List Bool) (like others now then : List Path) → (IsAmong p like → IsAmong p now) →
+    (IsAmong p others → IsAmong p then) → AreSplit level marks like others p → AreSplit level marks now then p
+split_further p level marks like others now then first rest h m =
+    let k = h m in (k.0, k.1, λ is. first (k.2 is), λ is. rest (k.3 is))
+
+-- one more in the part of those that are marked
+pub split_like : (paths : List Path) (i level : ℕ) (marks : List Bool) (own : Path) (like others new : List Path) →
+    AreSoFar paths i (AreSplit level marks like others) → slice_get paths i ≡ Some own → ((m : Mode) → IsMarked (chosen m (path_of own)) level marks true) →
+    new ≡ like ++ own ∷ [] → AreSoFar paths (i + 1) (AreSplit level marks new others)
+split_like paths i level marks own like others new h at marked longer =
+    so_far_more paths i own (AreSplit level marks like others) (AreSplit level marks new others) h
+    (λ p. split_further p level marks like others new others (among_more p own like new longer) (λ k. k)) at
+    (λ m. (true, marked m, λ is. among_last own like new longer, λ is. absurd (cc)))
+
+-- one more in the part of those that aren't
+pub split_others : (paths : List Path) (i level : ℕ) (marks : List Bool) (own : Path) (like others new : List Path) →
+    AreSoFar paths i (AreSplit level marks like others) → slice_get paths i ≡ Some own → ((m : Mode) → IsMarked (chosen m (path_of own)) level marks false) →
+    new ≡ others ++ own ∷ [] → AreSoFar paths (i + 1) (AreSplit level marks like new)
+split_others paths i level marks own like others new h at marked longer =
+    so_far_more paths i own (AreSplit level marks like others) (AreSplit level marks like new) h
+    (λ p. split_further p level marks like others like new (λ k. k) (among_more p own others new longer)) at
+    (λ m. (false, marked m, λ is. absurd (cc), λ is. among_last own others new longer))
 
 -- the first cases draw the member with this number
 pub record DrawMember (paths : List Path) (draw : Draw) (member i : ℕ) : Type 0 where

@@ -1,6 +1,6 @@
 -- What is known of an expression for several values of a variable at once.
 
-use Rattle.std.specs.Prelude.{ℕ, ◌≡◌, ◌+◌, ◌*◌, ◌<◌, Option, Some, None, List, length, map, sum_by, slice_get}
+use Rattle.std.specs.Prelude.{ℕ, ◌≡◌, ◌+◌, ◌*◌, ◌<◌, Option, Some, List, length, map, sum_by, slice_get}
 use Rattle.c2po_unfold.specs.declared.along.Trail.{Trail}
 use Rattle.c2po_unfold.specs.declared.each.Each.{Each}
 use Rattle.c2po_unfold.specs.declared.each.Each.TheVariants.{Same, Own}
@@ -11,6 +11,7 @@ use Rattle.c2po_unfold.specs.declared.resolved.Quantified.{Quantified}
 use Rattle.c2po_unfold.specs.declared.resolved.Resolved.{Resolved}
 use Rattle.c2po_unfold.specs.declared.resolved.Row.{Row}
 use Rattle.c2po_unfold.specs.declared.scope.Member.{Member}
+use Rattle.c2po_unfold.specs.declared.scope.Member.TheVariants as member
 use Rattle.c2po_unfold.specs.declared.scope.Head.{Head}
 use Rattle.c2po_unfold.specs.declared.scope.Scope.{Scope}
 use Rattle.c2po_unfold.specs.declared.summary.Summary.{Summary}
@@ -87,8 +88,8 @@ HasMember m u ms i v = (x : Member) × (slice_get ms i ≡ Some x) × IsMember m
 pub record IsListed (each : Each) (n : ℕ) (old new : List Member) : Type 0 where
   pub count : length new ≡ length old + n
   pub kept : (k : ℕ) (x : Member) → slice_get old k ≡ Some x → slice_get new k ≡ Some x
-  pub listed : (i : ℕ) → i < n → (x : Member) × (slice_get new (length old + i) ≡ Some x)
-      × (known_at each i ≡ Some x.summary) × (x.stored ≡ None)
+  pub listed : (i : ℕ) → i < n → (s : Summary) × (slice_get new (length old + i) ≡ Some (member.Known s))
+      × (known_at each i ≡ Some s)
 
 -- after other members there are the first n of these stored values
 pub record AreStored (u : Unfolding) (values : List Stored) (n : ℕ) (old new : List Member) : Type 0 where

@@ -1,14 +1,14 @@
 -- Several values of variables at once: an expression is looked at in several cases.
 
-use Rattle.std.specs.Prelude.{ℕ, ◌≡◌, ◌⊎◌, Some, List, slice_get, take}
+use Rattle.std.specs.Prelude.{ℕ, ◌≡◌, ◌⊎◌, Bool, true, false, Some, List, slice_get, take}
 use Rattle.c2po_unfold.specs.declared.path.Path.{Path}
 use Rattle.c2po_unfold.specs.declared.path.Turn.{Turn}
 use Rattle.c2po_unfold.specs.declared.scope.Choice.{Choice}
 use Rattle.c2po_unfold.specs.declared.scope.Draw.{Draw}
-use Rattle.c2po_unfold.specs.declared.scope.Draw.TheVariants.{First, Turned}
+use Rattle.c2po_unfold.specs.declared.scope.Draw.TheVariants.{Chosen, First, Marked, Turned}
 use Rattle.c2po_unfold.specs.declared.scope.Member.{Member}
+use Rattle.c2po_unfold.specs.declared.scope.Member.TheVariants as member
 use Rattle.c2po_unfold.specs.declared.unfolding.Unfolding.{Unfolding}
-use Rattle.c2po_unfold.specs.declared.values.Stored.{Stored}
 use Rattle.c2po_unfold.specs.Covering.{Mode}
 use Rattle.c2po_unfold.specs.Holding.{Holds}
 use Rattle.c2po_unfold.specs.Summaries.{IsSummary}
@@ -51,10 +51,26 @@ HasStarted paths p number = (q : Path) × (slice_get paths number ≡ Some q) ×
 abbrev pub IsParted : Path → (like others : List Path) → Type 0
 IsParted p like others = ((k : ℕ) × (slice_get like k ≡ Some p)) ⊎ ((k : ℕ) × (slice_get others k ≡ Some p))
 
--- what is known of a member is so of a value
-pub record IsMember (m : Mode) (u : Unfolding) (x : Member) (v : Value) : Type 0 where
-  pub known : IsSummary m x.summary v
-  pub holds : (s : Stored) → x.stored ≡ Some s → Holds u s v
+-- whether the number that a case has at a level is marked is this
+abbrev pub IsMarked : Case → (level : ℕ) → (marks : List Bool) → Bool → Type 0
+IsMarked (only m) level marks b = ⊥
+IsMarked (chosen m path) level marks b =
+    (k : ℕ) × (slice_get path level ≡ Some k) × (slice_get marks k ≡ Some b)
+
+-- a path is among these
+abbrev pub IsAmong : Path → List Path → Type 0
+IsAmong p paths = (k : ℕ) × (slice_get paths k ≡ Some p)
+
+-- a path is in the first part where its number at a level is marked, and in the other one where it isn't
+abbrev pub IsSplit : Mode → Path → (level : ℕ) → (marks : List Bool) → (like others : List Path) → Type 0
+IsSplit m p level marks like others = (b : Bool) × IsMarked (chosen m (path_of p)) level marks b
+    × (b ≡ true → IsAmong p like) × (b ≡ false → IsAmong p others)
+
+-- a member is a value: the one that a stored member represents, of which this is known where that is said
+abbrev pub IsMember : Mode → Unfolding → Member → Value → Type 0
+IsMember m u (member.Held s i) v = Holds u s v
+IsMember m u (member.Leaf k s i) v = IsSummary m k v × Holds u s v
+IsMember m u (member.Known k) v = IsSummary m k v
 
 -- a value is that of the member with the number that the case has at a level
 abbrev pub IsOneOf : Case → Unfolding → List Member → (level : ℕ) → Value → Type 0
@@ -73,3 +89,5 @@ IsDrawn (only m) (Turned turns level) s v = ⊥
 IsDrawn (chosen m path) (Turned turns level) s v =
     (k : ℕ) × (slice_get path level ≡ Some k)
     × ((t : Turn) → slice_get turns.now k ≡ Some t → slice_get (members s) t.member ≡ Some v)
+IsDrawn c (Chosen choice) s v = ⊥
+IsDrawn c (Marked marks level) s v = ⊥

@@ -1,12 +1,13 @@
 -- What names and picked fields lead to.
 
-use Rattle.std.specs.Prelude.{ℕ, ◌≡◌, ⊤, Bool, true, false, Option, Some, None, List, [], slice_get}
+use Rattle.std.specs.Prelude.{ℕ, ◌≡◌, ⊤, Bool, true, false, Option, Some, None, List, [], ◌∷◌, slice_get}
 use Rattle.c2po_ast.specs.Shape as tree
 use Rattle.c2po_ast.specs.Shape.{Shape}
 use Rattle.c2po_unfold.specs.declared.scope.Led.{Led}
 use Rattle.c2po_unfold.specs.declared.scope.Led.TheVariants as led
 use Rattle.c2po_unfold.specs.declared.scope.Head.{Head}
 use Rattle.c2po_unfold.specs.declared.scope.Head.TheVariants as head
+use Rattle.c2po_unfold.specs.declared.twofold.Twofold.{Twofold}
 use Rattle.c2po_unfold.specs.declared.drawing.Here.{Here}
 use Rattle.c2po_unfold.specs.declared.drawing.PartOf.{PartOf}
 use Rattle.c2po_unfold.specs.declared.drawing.SetsIn.{SetsIn}
@@ -17,13 +18,13 @@ use Rattle.c2po_unfold.specs.declared.values.Location.TheVariants.{Parts as Part
 use Rattle.c2po_unfold.specs.declared.values.Stored.{Stored}
 use Rattle.c2po_unfold.specs.declared.values.Whole.TheVariants as whole
 use Rattle.c2po_unfold.specs.declared.unfolding.Unfolding.{Unfolding}
-use Rattle.c2po_unfold.specs.Values.{Value, leaf, structure, set, built, grouped, picked}
-use Rattle.c2po_unfold.specs.Environment.{Env, fields_in}
+use Rattle.c2po_unfold.specs.Values.{Value, leaf, structure, set, built, grouped, members, picked}
+use Rattle.c2po_unfold.specs.Environment.{Env, bind, fields_in, value_in}
 use Rattle.c2po_unfold.specs.Holding.{Holds, HoldAll}
-use Rattle.c2po_unfold.specs.Resolving.{AllResolved, IsPlace, IsResolved, is_operation, resolved_value, resolved_values}
-use Rattle.c2po_unfold.specs.declared.scope.Scope.{Scope, Top, Open', Held', Covered', Varied', Drawn'}
-use Rattle.c2po_unfold.specs.Scopes.{FitsIn, MeetsIn, names_of}
-use Rattle.c2po_unfold.specs.Cases.{Case, only, mode_in, IsDrawn, IsVaried}
+use Rattle.c2po_unfold.specs.Resolving.{AllResolved, IsBound, IsPlace, IsResolved, is_operation, resolved_value, resolved_values}
+use Rattle.c2po_unfold.specs.declared.scope.Scope.{Scope}
+use Rattle.c2po_unfold.specs.Scopes.{FitsIn, IsEntry, MeetsIn, names_of}
+use Rattle.c2po_unfold.specs.Cases.{Case, only, mode_in, IsMarked, IsVaried}
 use Rattle.c2po_unfold.specs.Covering.{Mode}
 use Rattle.c2po_unfold.specs.Summaries.{IsOfLeaf}
 
@@ -37,16 +38,24 @@ IsLed c u base (led.Covered s) v = IsOfLeaf (mode_in c) s.now v
 IsLed c u base (led.Varied choice) v = IsVaried c u choice v
 IsLed c u base led.Drawn v = ⊤
 
--- the innermost of these variables has a value in a case
-abbrev pub IsEntry : Case → Unfolding → Env → Scope → Value → Type 0
-IsEntry c u base Top v = ⊥
-IsEntry c u base (Open' x e _ within _ outer) v = (env : Env) × FitsIn c u base within env
-    × IsResolved u base (names_of within) e.now × (v ≡ resolved_value e.now env)
-IsEntry c u base (Held' x s i _ outer) v = Holds u s v
-IsEntry c u base (Covered' x s _ outer) v = IsOfLeaf (mode_in c) s.now v
-IsEntry c u base (Varied' x choice _ outer) v = IsVaried c u choice v
-IsEntry c u base (Drawn' x e _ within draw _ outer) v = (env : Env) × IsDrawn c draw (resolved_value e.now env) v
-    × FitsIn c u base within env × IsResolved u base (names_of within) e.now
+-- the innermost of these variables, with this name, and those around it represent an environment in a case
+abbrev pub IsWithin : Case → Unfolding → Env → Scope → (name : List ℕ) → (outer : Scope) → Env → Type 0
+IsWithin c u base scope x outer env = (v : Value) × (around : Env) × IsEntry c u base scope v
+    × FitsIn c u base outer around × (env ≡ bind x v around)
+
+-- a variable within these has a value in a case
+abbrev pub IsNear : Case → Unfolding → Env → Scope → (name : List ℕ) → Value → Type 0
+IsNear c u base scope x v =
+    (env : Env) × FitsIn c u base scope env × IsBound (names_of scope) x × (v ≡ value_in (env x))
+
+-- a variable of this name has the same value within other variables
+pub record IsBeyond (scope outer : Scope) (x : List ℕ) : Type 0 where
+  pub same : (c : Case) (u : Unfolding) (base env : Env) → FitsIn c u base scope env → IsBound (names_of scope) x
+      → IsNear c u base outer x (value_in (env x))
+
+-- a set has one member in a case, which is what the innermost of these variables is
+abbrev pub IsOnly : Case → Unfolding → Env → Scope → (set : Value) → Type 0
+IsOnly c u base scope s = (v : Value) × (members s ≡ v ∷ []) × IsEntry c u base scope v
 
 -- an expression as it is read: a number, a Boolean, an operator or a quantifier
 abbrev pub is_operator : Shape → Bool
@@ -114,6 +123,11 @@ IsHere c u base here v = (env : Env) × MeetsIn c u base here.scope.now env here
 abbrev pub IsShared : Case → Unfolding → Env → Shared → Value → Type 0
 IsShared c u base (shared.Head h) v = HeadsIn c u base h v
 IsShared c u base (shared.Apart here draw) v = IsHere c u base here v
+
+-- a set has a value in a case, by what it leads to there
+abbrev pub IsTwofold : Case → Unfolding → Env → Twofold → (set : Value) → Type 0
+IsTwofold c u base two s = (b : Bool) × IsMarked c two.level two.marks.now.some b
+    × (b ≡ true → HeadsIn c u base two.like s) × (b ≡ false → HeadsIn c u base two.others s)
 
 -- the set of a quantifier has a value in the case with a number; nothing is said of one that isn't found in all cases
 abbrev pub AreSets : Case → Unfolding → Env → SetsIn → ℕ → Value → Type 0

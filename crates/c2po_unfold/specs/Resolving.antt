@@ -33,9 +33,9 @@ abbrev mutual
   resolved_value (Part' _ e x h) env = picked (λ y. fields_in (env y)) x (resolved_value e env)
   resolved_value (Unary' op _ a) env = leaf (one op (resolved_value a env))
   resolved_value (Binary' op _ a _ b) env = leaf (two op (resolved_value a env) (resolved_value b env))
-  resolved_value (Joined' op x _ s _ e) env = connected_all op
+  resolved_value (Joined' op x _ _ s _ e) env = connected_all op
       (map (λ v. resolved_value e (bind x v env)) (members (resolved_value s env)))
-  resolved_value (Counted' op m x _ s _ e) env = counted op m
+  resolved_value (Counted' op m x _ _ s _ e) env = counted op m
       (map (λ v. resolved_value e (bind x v env)) (members (resolved_value s env)))
 
   pub resolved_row : {m : _} → Row_of-Resolved m → Env → Values
@@ -126,8 +126,8 @@ abbrev mutual
   IsResolved u base xs (Part' _ e x h) = IsResolved u base xs e × IsPlace base xs x h
   IsResolved u base xs (Unary' op _ a) = IsResolved u base xs a
   IsResolved u base xs (Binary' op _ a _ b) = IsResolved u base xs a × IsResolved u base xs b
-  IsResolved u base xs (Joined' op x _ s _ e) = IsResolved u base xs s × IsResolved u base (x ∷ xs) e
-  IsResolved u base xs (Counted' op m x _ s _ e) = IsResolved u base xs s × IsResolved u base (x ∷ xs) e
+  IsResolved u base xs (Joined' op x _ _ s _ e) = IsResolved u base xs s × IsResolved u base (x ∷ xs) e
+  IsResolved u base xs (Counted' op m x _ _ s _ e) = IsResolved u base xs s × IsResolved u base (x ∷ xs) e
 
   pub AreResolved : Unfolding → Env → List (List ℕ) → {m : _} → Row_of-Resolved m → Type 0
   AreResolved u base xs end_of-Resolved = ⊤

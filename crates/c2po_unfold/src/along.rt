@@ -10,10 +10,9 @@ ghost use Rattle.c2po_unfold.specs.Along.{IsAlong, Reaches};
 ghost use Rattle.c2po_unfold.specs.Cases.{Case, IsVaried, chosen, path_of};
 ghost use Rattle.c2po_unfold.specs.Covering.{Mode};
 ghost use Rattle.c2po_unfold.specs.Environment.{Env, fields_in};
-ghost use Rattle.c2po_unfold.specs.Heads.{IsEntry};
 ghost use Rattle.c2po_unfold.specs.Holding.{Holds};
 ghost use Rattle.c2po_unfold.specs.Resolving.{AllResolved, IsPlace, resolved_value, resolved_values};
-ghost use Rattle.c2po_unfold.specs.Scopes.{FitsIn, MeetsIn, names_of};
+ghost use Rattle.c2po_unfold.specs.Scopes.{FitsIn, IsEntry, MeetsIn, names_of};
 ghost use Rattle.c2po_unfold.specs.Summaries.{IsOfLeaf};
 ghost use Rattle.c2po_unfold.specs.declared.unfolding.Unfolding.{Unfolding as Table};
 ghost use Rattle.c2po_unfold.specs.Values.{Value, built, grouped, members, picked};
@@ -24,7 +23,7 @@ use crate::fault::deeper;
 use crate::path::Cases;
 use crate::resolved::{Hint, Resolved};
 use crate::room::Room;
-use crate::scope::{Choice, Scope, Site};
+use crate::scope::{Choice, Draw, Scope, Site};
 use crate::summary::Summary;
 use crate::values::Stored;
 use mltl_base::Name;
@@ -210,6 +209,8 @@ impl Unfolding {
             → IsAlong (chosen m (path_of p)) self.now base trail.now (resolved_value e.now env) v
             → IfOk result (λ r. KnownFor m r i v) }
     {
+        let depth = deeper(at.depth)?;
+        let at = Site { depth, ..at };
         match entry {
             Scope::Top => Err(Stop::Alone),
             Scope::Covered { summary, .. } => each_covered(summary, trail),
@@ -230,6 +231,23 @@ impl Unfolding {
             } => match draw.agreed(cases.paths) {
                 Some(number) => self.each_drawn(at, cases, set, within, number, trail, room),
                 None => self.each_parted(at, cases, e, trail, *draw, room),
+            },
+            Scope::Parted {
+                marks,
+                level,
+                like,
+                others,
+                ..
+            } => match marks.agreed(*level, cases.paths) {
+                Some(true) => self.each_entry(at, cases, e, like, trail, room),
+                Some(false) => self.each_entry(at, cases, e, others, trail, room),
+                None => {
+                    let draw = Draw::Marked {
+                        marks,
+                        level: *level,
+                    };
+                    self.each_parted(at, cases, e, trail, draw, room)
+                }
             },
         }
     }
@@ -256,10 +274,7 @@ impl Unfolding {
             return self.each_member(choice, cases);
         }
         match choice.agreed(cases.paths) {
-            Some(number) => {
-                let stored = choice.stored(number).ok_or(Stop::Alone)?;
-                self.each_end(at.depth, stored, trail)
-            }
+            Some(stored) => self.each_end(at.depth, stored, trail),
             None => self.each_parted(at, cases, e, trail, choice.draw(), room),
         }
     }

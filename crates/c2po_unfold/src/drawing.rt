@@ -7,13 +7,13 @@ ghost use Rattle.std.specs.Prelude.{◌≡◌, ℕ, true, Some, IfOk, IfSome, le
 ghost use Rattle.c2po_unfold.specs.declared.path.Path.{Path as CasePath};
 ghost use Rattle.c2po_unfold.specs.Ahead.{HoldsFor, RowsLead};
 ghost use Rattle.c2po_unfold.specs.declared.values.Stored.{Stored as StoredValue};
-ghost use Rattle.c2po_unfold.specs.Cases.{Case, IsDrawn, IsVaried, chosen, path_of};
+ghost use Rattle.c2po_unfold.specs.Cases.{Case, IsDrawn, IsMarked, IsVaried, chosen, path_of};
 ghost use Rattle.c2po_unfold.specs.Covering.{Mode};
 ghost use Rattle.c2po_unfold.specs.Environment.{Env, fields_in, value_in};
-ghost use Rattle.c2po_unfold.specs.Heads.{AreSets, HeadsIn, IsEntry, IsHere, IsPartOf, IsShared};
+ghost use Rattle.c2po_unfold.specs.Heads.{AreSets, HeadsIn, IsHere, IsPartOf, IsShared};
 ghost use Rattle.c2po_unfold.specs.Holding.{Holds};
 ghost use Rattle.c2po_unfold.specs.Resolving.{IsBound, IsPlace, resolved_value};
-ghost use Rattle.c2po_unfold.specs.Scopes.{MeetsIn, names_of};
+ghost use Rattle.c2po_unfold.specs.Scopes.{FitsIn, IsEntry, MeetsIn, names_of};
 ghost use Rattle.c2po_unfold.specs.Values.{Value, members, picked};
 ghost use Rattle.c2po_unfold.specs.declared.unfolding.Unfolding.{Unfolding as Table};
 
@@ -22,7 +22,7 @@ use crate::each::Stop;
 use crate::fault::deeper;
 use crate::path::{Cases, Path};
 use crate::resolved::{Hint, Resolved, Row};
-use crate::scope::{Choice, Draw, Head, Led, Scope, Site};
+use crate::scope::{Choice, Draw, Head, Led, Marks, Scope, Site};
 use crate::values::Stored;
 use mltl_base::Name;
 
@@ -73,6 +73,19 @@ pub(crate) enum SetsIn<'a> {
 }
 
 impl<'a> SetsIn<'a> {
+    /// These stored sets, or what is found where there are none.
+    fn found(sets: Result<Vec<Stored>, Stop>, others: SetsIn<'a>) -> Result<SetsIn<'a>, Stop>
+        ensures { (c : Case) (u : Table) (base : Env) (i : ℕ) (v : Value)
+            → IfOk sets (λ r. HoldsFor u r.items i v) → AreSets c u base others.entry i v
+            → IfOk result (λ r. AreSets c u base r i v) }
+    {
+        match sets {
+            Ok(sets) => Ok(SetsIn::stored(sets)),
+            Err(Stop::Alone) => Ok(others),
+            Err(Stop::Memory) => Err(Stop::Memory),
+        }
+    }
+
     /// These stored sets, one for each case.
     fn stored(sets: Vec<Stored>) -> SetsIn<'a>
         ensures { (c : Case) (u : Table) (base : Env) (i : ℕ) (v : Value)
@@ -140,45 +153,116 @@ impl<'a> Draw<'a> {
         Some(member)
     }
 
-    /// Whether two cases draw the same member; where none is listed, whether they have the same number at the level.
+    /// Whether two cases draw the same.
     pub(crate) fn joins(self, path: &Path, other: &Path) -> bool {
-        let Draw::Turned { turns, level } = self else {
-            return true;
-        };
-        let (Some(i), Some(j)) = (path.at(level), other.at(level)) else {
-            return false;
-        };
-        match (turns.get(i), turns.get(j)) {
-            (Some(own), Some(other)) => own.member == other.member,
-            _ => i == j,
+        match self {
+            Draw::First => true,
+            Draw::Turned { turns, level } => {
+                let (Some(i), Some(j)) = (path.at(level), other.at(level)) else {
+                    return false;
+                };
+                match (turns.get(i), turns.get(j)) {
+                    (Some(own), Some(other)) => own.member == other.member,
+                    _ => i == j,
+                }
+            }
+            Draw::Chosen(choice) => choice.is_same(path, other),
+            Draw::Marked { marks, level } => marks.of(level, path) == marks.of(level, other),
         }
     }
 }
 
-impl<'a> Choice<'a> {
-    /// The number that all of these cases have at the level, if it is the same.
-    pub(crate) fn agreed(self, paths: &[Path]) -> Option<usize>
-        ensures { (i : ℕ) (p : CasePath) → slice_get paths.now i ≡ Some p
-            → IfSome result (λ number. slice_get (path_of p) self.entry.level ≡ Some number) }
+impl Marks {
+    /// Whether a number is marked, if it can be.
+    #[inline(always)]
+    fn at(&self, number: usize) -> Option<bool>
+        ensures { IfSome result (λ b. slice_get self.now.some number ≡ Some b) }
     {
-        let number = paths.get(0)?.at(self.level)?;
+        self.some.get(number).copied()
+    }
+
+    /// Whether the numbers that these cases have at a level are marked, if that is the same in all.
+    pub(crate) fn agreed(&self, level: usize, paths: &[Path]) -> Option<bool>
+        ensures { (m : Mode) (i : ℕ) (p : CasePath) → slice_get paths.now i ≡ Some p
+            → IfSome result (λ b. IsMarked (chosen m (path_of p)) level self.now.some b) }
+    {
+        let marked = self.of(level, paths.get(0)?)?;
         for path in paths {
-            if !path.has(self.level, number) {
+            if !self.has(level, path, marked) {
                 return None;
             }
         }
-        Some(number)
+        Some(marked)
     }
 
-    /// The stored value that each case with this number at the level chooses, if it is listed as one.
-    pub(crate) fn stored(self, number: usize) -> Option<Stored>
-        ensures { (m : Mode) (u : Table) (p : CasePath) (v : Value)
-            → slice_get (path_of p) self.entry.level ≡ Some number
-            → IsVaried (chosen m (path_of p)) u self.entry v → IfSome result (λ s. Holds u s v) }
+    /// Whether the number that a case has at a level is marked, or isn't, as wanted.
+    #[inline(always)]
+    fn has(&self, level: usize, path: &Path, wanted: bool) -> bool
+        ensures { (m : Mode) → result ≡ true
+            → IsMarked (chosen m (path_of path.now)) level self.now.some wanted }
     {
-        let member = self.members.get(number)?;
-        let stored = member.stored?;
-        Some(stored)
+        match self.of(level, path) {
+            Some(true) => wanted,
+            Some(false) => !wanted,
+            None => false,
+        }
+    }
+
+    /// Whether the number that a case has at a level is marked, if it has one.
+    #[inline(always)]
+    pub(crate) fn of(&self, level: usize, path: &Path) -> Option<bool>
+        ensures { (m : Mode)
+            → IfSome result (λ b. IsMarked (chosen m (path_of path.now)) level self.now.some b) }
+    {
+        self.at(path.at(level)?)
+    }
+}
+
+impl<'a> Choice<'a> {
+    /// The stored value that a case chooses, if it chooses one.
+    #[inline(always)]
+    fn stored(self, path: &Path) -> Option<Stored>
+        ensures { (m : Mode) (u : Table) (v : Value)
+            → IsVaried (chosen m (path_of path.now)) u self.entry v
+            → IfSome result (λ s. Holds u s v) }
+    {
+        let member = self.member(path)?;
+        member.stored()
+    }
+
+    /// The stored value that all of these cases choose, if it is the same.
+    pub(crate) fn agreed(self, paths: &[Path]) -> Option<Stored>
+        ensures { (m : Mode) (u : Table) (i : ℕ) (p : CasePath) (v : Value)
+            → slice_get paths.now i ≡ Some p → IsVaried (chosen m (path_of p)) u self.entry v
+            → IfSome result (λ s. Holds u s v) }
+    {
+        let first = self.stored(paths.get(0)?)?;
+        for path in paths {
+            if !self.chooses(path, first) {
+                return None;
+            }
+        }
+        Some(first)
+    }
+
+    /// Whether a case chooses this stored value.
+    #[inline(always)]
+    fn chooses(self, path: &Path, stored: Stored) -> bool
+        ensures { (m : Mode) (u : Table) (v : Value) → result ≡ true
+            → IsVaried (chosen m (path_of path.now)) u self.entry v → Holds u stored v }
+    {
+        match self.stored(path) {
+            Some(own) => own.is(stored),
+            None => false,
+        }
+    }
+
+    /// Whether two cases choose the same stored value.
+    fn is_same(self, path: &Path, other: &Path) -> bool {
+        match (self.stored(path), self.stored(other)) {
+            (Some(own), Some(other)) => own.is(other),
+            _ => path.at(self.level) == other.at(self.level),
+        }
     }
 
     /// Whether it is listed, and cases choose different members.
@@ -188,10 +272,7 @@ impl<'a> Choice<'a> {
 
     /// The same choice, as far as cases differ in it.
     pub(crate) fn draw(self) -> Draw<'a> {
-        Draw::Turned {
-            turns: &[],
-            level: self.level,
-        }
+        Draw::Chosen(self)
     }
 }
 
@@ -220,7 +301,14 @@ impl Unfolding {
             Resolved::Known(_, stored) | Resolved::Found(_, stored) => {
                 Ok(Shared::Head(Head::Held(*stored)))
             }
-            Resolved::Variable(name) => self.entry_in(levels, paths, here, scope.entry(name)),
+            Resolved::Variable(name) => {
+                let entry = scope.entry(name);
+                let near = Here {
+                    scope: entry,
+                    ..here
+                };
+                self.entry_in(levels, paths, near, entry)
+            }
             Resolved::Column(whole, name, rows) => {
                 self.column_in(levels, paths, here, whole, name, rows.as_slice())
             }
@@ -346,6 +434,23 @@ impl Unfolding {
                     Shared::Apart(_, draw) => Ok(Shared::Apart(here, draw)),
                 }
             }
+            Scope::Parted {
+                marks,
+                level,
+                like,
+                others,
+                ..
+            } => match marks.agreed(*level, paths) {
+                Some(true) => self.entry_in(levels, paths, here, like),
+                Some(false) => self.entry_in(levels, paths, here, others),
+                None => Ok(Shared::Apart(
+                    here,
+                    Draw::Marked {
+                        marks,
+                        level: *level,
+                    },
+                )),
+            },
         }
     }
 
@@ -377,10 +482,9 @@ impl Unfolding {
                 Ok(Shared::Head(Head::Held(*member)))
             }
             Head::Varied(choice) => {
-                let Some(number) = choice.agreed(paths) else {
+                let Some(set) = choice.agreed(paths) else {
                     return Ok(Shared::Apart(here, choice.draw()));
                 };
-                let set = choice.stored(number).ok_or(Stop::Alone)?;
                 self.member_in(levels, paths, here, Head::Held(set), i)
             }
             _ => Err(Stop::Alone),
@@ -418,10 +522,9 @@ impl Unfolding {
                 Ok(Shared::Head(Head::Held(part)))
             }
             Head::Varied(choice) => {
-                let Some(number) = choice.agreed(paths) else {
+                let Some(whole) = choice.agreed(paths) else {
                     return Ok(Shared::Apart(here, choice.draw()));
                 };
-                let whole = choice.stored(number).ok_or(Stop::Alone)?;
                 self.part_in(levels, paths, here, Head::Held(whole), part)
             }
             _ => Err(Stop::Alone),
@@ -463,34 +566,71 @@ impl Unfolding {
             → IfOk result (λ r. AreSets (chosen m (path_of p)) self.now base r i
             (resolved_value set.entry.now env)) }
     {
-        match self.head_in(at.depth, cases.paths, at.scope, set)? {
-            Shared::Head(Head::Varied(_)) => self.sets_apart(at, cases, set, SetsIn::Led),
-            Shared::Head(head) => Ok(SetsIn::Same(head)),
-            Shared::Apart(here, draw) => {
-                self.sets_apart(at, cases, set, SetsIn::Drawn(here, draw))
+        if let Resolved::Column(_, name, rows) = set {
+            match self.column_sets(at.scope, cases, name, rows.as_slice()) {
+                Ok(sets) => return Ok(SetsIn::stored(sets)),
+                Err(Stop::Memory) => return Err(Stop::Memory),
+                Err(Stop::Alone) => {}
             }
+        }
+        match self.head_in(at.depth, cases.paths, at.scope, set)? {
+            Shared::Head(Head::Varied(choice)) => {
+                SetsIn::found(self.chosen(choice, cases), SetsIn::Led)
+            }
+            Shared::Head(head) => Ok(SetsIn::Same(head)),
+            Shared::Apart(here, draw) => match draw {
+                Draw::Chosen(_) => {
+                    let sets = self.traced_here(at.depth, cases, here);
+                    SetsIn::found(sets, SetsIn::Drawn(here, draw))
+                }
+                Draw::First | Draw::Turned { .. } | Draw::Marked { .. } => {
+                    Ok(SetsIn::Drawn(here, draw))
+                }
+            },
         }
     }
 
-    /// The stored sets of cases that differ, or what is found where they aren't stored.
-    fn sets_apart<'a>(
+    /// The stored sets that a column has for the members that cases choose, if these are listed.
+    fn column_sets(
         &self,
-        at: Site<'_>,
+        scope: &Scope<'_>,
         cases: Cases<'_>,
-        set: &Resolved,
-        found: SetsIn<'a>,
-    ) -> Result<SetsIn<'a>, Stop>
-        ensures { (m : Mode) (base env : Env) (i : ℕ) (p : CasePath)
+        name: &Name,
+        rows: &[Row],
+    ) -> Result<Vec<Stored>, Stop>
+        ensures { (m : Mode) (base env : Env) (i : ℕ) (p : CasePath) (v : Value)
             → slice_get cases.entry.paths.now i ≡ Some p
-            → MeetsIn (chosen m (path_of p)) self.now base at.entry.scope.now env set.now
-            → AreSets (chosen m (path_of p)) self.now base found.entry i (resolved_value set.now env)
-            → IfOk result (λ r. AreSets (chosen m (path_of p)) self.now base r i
-            (resolved_value set.now env)) }
+            → FitsIn (chosen m (path_of p)) self.now base scope.now env
+            → IsBound (names_of scope.now) name.now
+            → RowsLead self.now rows.now (value_in (env name.now)) v
+            → IfOk result (λ r. HoldsFor self.now r.items i v) }
     {
-        match self.traced(at, cases, set) {
-            Ok(sets) => Ok(SetsIn::stored(sets)),
-            Err(Stop::Alone) => Ok(found),
-            Err(Stop::Memory) => Err(Stop::Memory),
+        match scope.variable(name) {
+            Led::Varied(choice) if choice.is_listed() => self.found_in(choice, rows, cases),
+            _ => Err(Stop::Alone),
+        }
+    }
+
+    /// The stored value that an expression, or a field of it, leads to in each case.
+    fn traced_here(
+        &self,
+        levels: u32,
+        cases: Cases<'_>,
+        here: Here<'_>,
+    ) -> Result<Vec<Stored>, Stop>
+        ensures { (m : Mode) (base : Env) (i : ℕ) (p : CasePath) (v : Value)
+            → slice_get cases.entry.paths.now i ≡ Some p
+            → IsHere (chosen m (path_of p)) self.now base here.entry v
+            → IfOk result (λ r. HoldsFor self.now r.items i v) }
+    {
+        let own = Site {
+            depth: levels,
+            scope: here.scope,
+        };
+        let wholes = self.traced(own, cases, here.expr)?;
+        match here.part {
+            None => Ok(wholes),
+            Some(part) => self.parts_of(part.scope, wholes.as_slice(), part.field, part.hint),
         }
     }
 

@@ -289,12 +289,7 @@ impl Each {
             let Some(known) = self.get(i) else {
                 return Err(Stop::Alone);
             };
-            let member = Member {
-                summary: *known,
-                stored: None,
-                index: i,
-            };
-            add(&mut *all, member)?;
+            add(&mut *all, Member::Known(*known))?;
         }
         Ok(())
     }

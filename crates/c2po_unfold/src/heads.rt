@@ -1,16 +1,17 @@
 //! What names and picked fields lead to, without a look at what they leave aside.
 
-ghost use Rattle.std.specs.Prelude.{◌≡◌, ◌∷◌, ℕ, List, MatchOption, Some, IfSome, length, position, slice_get, IfOk, IfErr};
+ghost use Rattle.std.specs.Prelude.{◌≡◌, ◌<◌, ◌∷◌, ℕ, List, MatchOption, None, Some, IfSome, length, position, slice_get, IfOk, IfErr};
 ghost use Rattle.std.specs.Str.{bytes_eq};
 ghost use Rattle.c2po_unfold.specs.declared.resolved.Row.{Row as Line};
 ghost use Rattle.c2po_unfold.specs.declared.fault.UnfoldFault.TheVariants.{Memory};
 ghost use Rattle.c2po_unfold.specs.Cases.{Case, IsDrawn};
 ghost use Rattle.c2po_unfold.specs.Covering.{Mode};
 ghost use Rattle.c2po_unfold.specs.Environment.{Env, bind, fields_in, value_in};
-ghost use Rattle.c2po_unfold.specs.Heads.{Heads, HeadsIn, HoldMembers, IsEntry, IsLed, IsOf, IsOther};
+ghost use Rattle.c2po_unfold.specs.Heads.{Heads, HeadsIn, HoldMembers, IsBeyond, IsLed, IsNear, IsOf, IsOther, IsWithin};
 ghost use Rattle.c2po_unfold.specs.Holding.{Holds, StandsFor};
 ghost use Rattle.c2po_unfold.specs.Resolving.{IsBound, IsPlace, resolved_value};
-ghost use Rattle.c2po_unfold.specs.Scopes.{FitsIn, MeetsIn, names_of};
+ghost use Rattle.c2po_unfold.specs.Scopes.{FitsIn, IsEntry, MeetsIn, names_of};
+ghost use Rattle.c2po_unfold.specs.declared.scope.Scope.{Top};
 ghost use Rattle.c2po_unfold.specs.declared.unfolding.Unfolding.{Unfolding};
 ghost use Rattle.c2po_unfold.specs.Values.{Value, members, picked};
 
@@ -42,24 +43,55 @@ pub(crate) fn is_named(own: &Name, name: &Name) -> bool
 }
 
 impl<'a> Scope<'a> {
-    /// The variable of a name, with those around it; `Scope::Top` where there is none.
-    pub(crate) fn entry(&'a self, name: &Name) -> &'a Scope<'a>
-        ensures { (c : Case) (u : Unfolding) (base env : Env) → FitsIn c u base self.now env
-            → IsBound (names_of self.now) name.now
-            → IsEntry c u base result.now (value_in (env name.now)) }
+    /// The name of the innermost variable, with those around it, if there is one.
+    #[inline(always)]
+    fn innermost(&'a self) -> Option<(&'a Name, &'a Scope<'a>)>
+        ensures names { IfSome result (λ r. names_of self.now ≡ r.0.now ∷ names_of r.1.now) }
+        ensures fits { (c : Case) (u : Unfolding) (base env : Env) → FitsIn c u base self.now env
+            → IfSome result (λ r. IsWithin c u base self.now r.0.now r.1.now env) }
+        ensures none { result ≡ None → self.now ≡ Top }
     {
         match self {
-            Scope::Top => self,
-            Scope::Open { name: own, .. } if is_named(own, name) => self,
-            Scope::Held { name: own, .. } if is_named(own, name) => self,
-            Scope::Covered { name: own, .. } if is_named(own, name) => self,
-            Scope::Varied { name: own, .. } if is_named(own, name) => self,
-            Scope::Drawn { name: own, .. } if is_named(own, name) => self,
-            Scope::Open { outer, .. } => outer.entry(name),
-            Scope::Held { outer, .. } => outer.entry(name),
-            Scope::Covered { outer, .. } => outer.entry(name),
-            Scope::Varied { outer, .. } => outer.entry(name),
-            Scope::Drawn { outer, .. } => outer.entry(name),
+            Scope::Top => None,
+            Scope::Open { name, outer, .. }
+            | Scope::Held { name, outer, .. }
+            | Scope::Covered { name, outer, .. }
+            | Scope::Varied { name, outer, .. }
+            | Scope::Drawn { name, outer, .. }
+            | Scope::Parted { name, outer, .. } => Some((name, outer)),
+        }
+    }
+
+    /// The variables around the innermost one, if that has another name.
+    #[inline(always)]
+    fn beyond(&'a self, name: &Name) -> Option<&'a Scope<'a>>
+        ensures further { IfSome result (λ r. IsBeyond self.now r.now name.now) }
+        ensures fewer { IfSome result
+            (λ r. length (names_of r.now) < length (names_of self.now)) }
+        ensures here { (c : Case) (u : Unfolding) (base env : Env) → result ≡ None
+            → FitsIn c u base self.now env → IsBound (names_of self.now) name.now
+            → IsEntry c u base self.now (value_in (env name.now)) }
+    {
+        let (own, outer) = self.innermost()?;
+        if is_named(own, name) {
+            None
+        } else {
+            Some(outer)
+        }
+    }
+
+    /// The variable of a name, with those around it; `Scope::Top` where there is none.
+    pub(crate) fn entry(&'a self, name: &Name) -> &'a Scope<'a>
+        ensures entry { (c : Case) (u : Unfolding) (base env : Env) → FitsIn c u base self.now env
+            → IsBound (names_of self.now) name.now
+            → IsEntry c u base result.now (value_in (env name.now)) }
+        ensures near { (c : Case) (u : Unfolding) (base env : Env) → FitsIn c u base self.now env
+            → IsBound (names_of self.now) name.now
+            → IsNear c u base result.now name.now (value_in (env name.now)) }
+    {
+        match self.beyond(name) {
+            Some(outer) => outer.entry(name),
+            None => self,
         }
     }
 
@@ -75,12 +107,12 @@ impl<'a> Scope<'a> {
             Scope::Held { stored, index, .. } => Led::Held(*stored, *index),
             Scope::Covered { summary, .. } => Led::Covered(summary),
             Scope::Varied { choice, .. } => Led::Varied(*choice),
-            Scope::Drawn { .. } => Led::Drawn,
+            Scope::Drawn { .. } | Scope::Parted { .. } => Led::Drawn,
         }
     }
 
     /// The same variable under another name, where it is an expression or a member of a set.
-    fn renamed(&'a self, name: &'a Name, outer: &'a Scope<'a>) -> Option<Scope<'a>>
+    pub(crate) fn renamed(&'a self, name: &'a Name, outer: &'a Scope<'a>) -> Option<Scope<'a>>
         ensures names { IfSome result (λ r. names_of r ≡ name.now ∷ names_of outer.now) }
         ensures fits { (c : Case) (u : Unfolding) (base env : Env) (v : Value)
             → FitsIn c u base outer.now env → IsEntry c u base self.now v
@@ -103,6 +135,20 @@ impl<'a> Scope<'a> {
                 set,
                 within,
                 draw: *draw,
+                outer,
+            }),
+            Scope::Parted {
+                marks,
+                level,
+                like,
+                others,
+                ..
+            } => Some(Scope::Parted {
+                name,
+                marks,
+                level: *level,
+                like,
+                others,
                 outer,
             }),
             _ => None,
@@ -190,7 +236,8 @@ impl Unfolding {
             | Scope::Held { name, outer, .. }
             | Scope::Covered { name, outer, .. }
             | Scope::Varied { name, outer, .. }
-            | Scope::Drawn { name, outer, .. } => {
+            | Scope::Drawn { name, outer, .. }
+            | Scope::Parted { name, outer, .. } => {
                 if whole.bytes() == name.bytes() {
                     None
                 } else {
@@ -342,7 +389,7 @@ impl Unfolding {
 
     /// What a variable, the innermost of these, leads to.
     #[cycle(heading)]
-    fn entry_head<'a>(
+    pub(crate) fn entry_head<'a>(
         &self,
         levels: u32,
         scope: &'a Scope<'a>,
@@ -364,6 +411,10 @@ impl Unfolding {
                 draw,
                 ..
             } => self.drawn_head(levels, set, within, *draw),
+            Scope::Parted { level, .. } => Ok(Head::Varied(Choice {
+                members: &[],
+                level: *level,
+            })),
             Scope::Top => Ok(Head::Nothing(scope, e)),
         }
     }
@@ -384,10 +435,11 @@ impl Unfolding {
         ensures memory { IfErr result (λ why. why ≡ Memory) }
     {
         match draw {
-            Draw::Turned { level, .. } => Ok(Head::Varied(Choice {
+            Draw::Turned { level, .. } | Draw::Marked { level, .. } => Ok(Head::Varied(Choice {
                 members: &[],
                 level,
             })),
+            Draw::Chosen(choice) => Ok(Head::Varied(choice.unlisted())),
             Draw::First => {
                 let set = self.head(levels, within, set)?;
                 self.member(levels, &set, 0)
@@ -397,7 +449,7 @@ impl Unfolding {
 
     /// What the part that a field names leads to; what has no such part is its own.
     #[cycle(heading)]
-    fn part<'a>(
+    pub(crate) fn part<'a>(
         &self,
         levels: u32,
         scope: &'a Scope<'a>,

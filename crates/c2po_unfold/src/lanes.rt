@@ -100,19 +100,13 @@ impl Lanes {
         Ok(())
     }
 
-    /// Puts a stored member, of which this is known, after those that are there.
+    /// Puts a member after those that are there.
     #[inline(always)]
-    fn push(&mut self, turn: Turn, summary: Summary, stored: Stored, path: Path) -> Result<(), Stop>
+    fn push(&mut self, turn: Turn, member: Member, path: Path) -> Result<(), Stop>
         ensures turns { OnOk result (self.new.turns.items ≡ self.old.turns.items ++ turn ∷ []) }
-        ensures members { OnOk result (self.new.members.items ≡ self.old.members.items
-            ++ record { summary = summary; stored = Some stored; index = turn.member } ∷ []) }
+        ensures members { OnOk result (self.new.members.items ≡ self.old.members.items ++ member ∷ []) }
         ensures paths { OnOk result (self.new.paths.items ≡ self.old.paths.items ++ path ∷ []) }
     {
-        let member = Member {
-            summary,
-            stored: Some(stored),
-            index: turn.member,
-        };
         self.push_turn(turn, path)?;
         add(&mut self.members, member)
     }
@@ -209,7 +203,7 @@ impl Unfolding {
             → IfOk result
             (λ r. KnownFor m r i (connected_all op (resolved_bodies bodies.entry env s))) }
     {
-        if !bodies.is_used(at.depth) {
+        if !bodies.is_used() {
             let counts = self.counts_held(sets)?;
             return self.joined_same(at, cases, op, bodies, counts.as_slice(), room);
         }
@@ -237,7 +231,7 @@ impl Unfolding {
             → MeetsBodyIn (chosen m (path_of p)) self.now base at.entry.scope.now env bodies.entry
             → IfOk result (λ r. KnownFor m r i (connected_all op (bodies_of bodies.entry env))) }
     {
-        if bodies.is_used(at.depth) {
+        if bodies.is_used() {
             return self.joined_over(at, cases, op, bodies, Sets::Led, room);
         }
         let counts = self.counts_led(at, cases, bodies.set)?;
@@ -468,12 +462,7 @@ impl Unfolding {
             let Some(stored) = self.held_members(*set).get(0) else {
                 return Err(Stop::Alone);
             };
-            let member = Member {
-                summary: self.held(*stored),
-                stored: Some(*stored),
-                index: 0,
-            };
-            add(&mut all, member)?;
+            add(&mut all, self.member_of(*stored, 0))?;
         }
         Ok(all)
     }
@@ -601,7 +590,7 @@ impl Unfolding {
             let stored = members.get(member).ok_or(Stop::Alone)?;
             let path = path.reaching(over.level, count).ok_or(Stop::Alone)?;
             let turn = Turn { member, ..turn };
-            lanes.push(turn, self.held(*stored), *stored, path)?;
+            lanes.push(turn, self.member_of(*stored, member), path)?;
         }
         Ok(())
     }

@@ -33,6 +33,7 @@ pub mod summary;
 pub mod summing;
 mod together;
 mod tracing;
+mod twofold;
 pub mod unfolding;
 mod unused;
 pub mod values;

@@ -1,11 +1,13 @@
 //! The numbers by which a case chooses members.
 
 ghost use Rattle.std.specs.Prelude.{true, ◌≡◌, ◌+◌, ◌*◌, ◌%◌, ◌<◌, ℕ, Some, IfOk, IfSome, length, slice_get};
-ghost use Rattle.c2po_unfold.specs.Cases.{HasBegun, HasReached, HasStarted, IsParted, IsReached, path_of};
+ghost use Rattle.c2po_unfold.specs.Cases.{HasBegun, HasReached, HasStarted, IsParted, IsReached, IsSplit, path_of};
+ghost use Rattle.c2po_unfold.specs.Covering.{Mode};
 ghost use Rattle.c2po_unfold.specs.declared.path.Path.{Path as CasePath};
 
 use crate::each::{Stop, add};
-use crate::scope::Draw;
+use crate::scope::{Draw, Marks};
+use crate::together::TOGETHER;
 use std::alloc::Global;
 
 /// How many numbers a path has at most.
@@ -240,6 +242,62 @@ impl<'a> Cases<'a> {
         let mut others = Vec::with_capacity(alloc, self.len())?;
         for path in self.paths {
             if draw.joins(first, path) {
+                add(&mut like, *path)?;
+            } else {
+                add(&mut others, *path)?;
+            }
+        }
+        Ok(Parted { like, others })
+    }
+
+    /// Whether they draw two things, as far as is seen at once.
+    pub(crate) fn are_twofold(self, draw: Draw<'_>) -> bool {
+        let Some(first) = self.paths.get(0) else {
+            return false;
+        };
+        let mut second = 0_usize;
+        for i in 0..self.len() {
+            let (Some(path), Some(other)) = (self.paths.get(i), self.paths.get(second)) else {
+                return false;
+            };
+            if !draw.joins(first, path) {
+                if second == 0 {
+                    second = i;
+                } else if !draw.joins(other, path) {
+                    return false;
+                }
+            }
+        }
+        true
+    }
+
+    /// The numbers at the level of a draw of those cases that draw what the first one does.
+    pub(crate) fn marks(self, draw: Draw<'_>) -> Marks {
+        let mut some = [false; TOGETHER];
+        let Some(first) = self.paths.get(0) else {
+            return Marks { some };
+        };
+        for path in self.paths {
+            if draw.joins(first, path) {
+                let number = path.at(draw.level()).unwrap_or(0);
+                if number < TOGETHER {
+                    some[number] = true;
+                }
+            }
+        }
+        Marks { some }
+    }
+
+    /// The paths of those cases whose number at a level is marked, and of all others.
+    pub(crate) fn split(self, alloc: Global, level: usize, marks: &Marks) -> Result<Parted, Stop>
+        ensures { (m : Mode) (i : ℕ) (p : CasePath) → slice_get self.entry.paths.now i ≡ Some p
+            → IfOk result (λ r. IsSplit m p level marks.now.some r.like.items r.others.items) }
+    {
+        let mut like = Vec::with_capacity(alloc, self.len())?;
+        let mut others = Vec::with_capacity(alloc, self.len())?;
+        for path in self.paths {
+            let marked = marks.of(level, path).ok_or(Stop::Alone)?;
+            if marked {
                 add(&mut like, *path)?;
             } else {
                 add(&mut others, *path)?;

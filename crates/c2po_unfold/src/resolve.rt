@@ -345,7 +345,8 @@ impl Unfolding {
     {
         let set = self.resolve_boxed(maker, around, set)?;
         let body = self.resolve_body(maker, around, name, body, &set)?;
-        Ok(Resolved::Joined(op, name.copy(), set, body))
+        let usage = body.usage(name);
+        Ok(Resolved::Joined(op, name.copy(), usage, set, body))
     }
 
     /// Resolves the names of a quantifier that counts.
@@ -370,7 +371,8 @@ impl Unfolding {
     {
         let set = self.resolve_boxed(maker, around, set)?;
         let body = self.resolve_body(maker, around, name, body, &set)?;
-        Ok(Resolved::Counted(op, number, name.copy(), set, body))
+        let usage = body.usage(name);
+        Ok(Resolved::Counted(op, number, name.copy(), usage, set, body))
     }
 
     /// Resolves the names of a quantifier's body, after those of its set.

@@ -39,10 +39,10 @@ pub enum Resolved {
     Part(Box<Resolved>, Name, Hint),
     Unary(UnaryOp, Box<Resolved>),
     Binary(BinaryOp, Box<Resolved>, Box<Resolved>),
-    /// A quantifier whose bodies are joined by an operator: variable, set, body.
-    Joined(LogicOp, Name, Box<Resolved>, Box<Resolved>),
-    /// A quantifier that counts: number, variable, set, body.
-    Counted(CountOp, u64, Name, Box<Resolved>, Box<Resolved>),
+    /// A quantifier whose bodies are joined by an operator: variable, whether the body uses it, set, body.
+    Joined(LogicOp, Name, Usage, Box<Resolved>, Box<Resolved>),
+    /// A quantifier that counts: number, variable, whether the body uses it, set, body.
+    Counted(CountOp, u64, Name, Usage, Box<Resolved>, Box<Resolved>),
 }
 
 /// What an expression over a variable is where the variable is a stored value.
@@ -60,10 +60,18 @@ pub enum Hint {
     Place(Name, usize),
 }
 
+/// Whether a variable is probably in the body of its quantifier.
+#[derive(Clone, Copy)]
+pub enum Usage {
+    Used,
+    Unused,
+}
+
 /// A quantifier's variable, with the set of its values and the body that there is for each.
 #[derive(Clone, Copy)]
 pub struct Quantified<'a> {
     pub name: &'a Name,
+    pub usage: Usage,
     pub set: &'a Resolved,
     pub body: &'a Resolved,
 }
@@ -115,6 +123,15 @@ impl Resolved {
         }
     }
 
+    /// Whether a variable is probably in it.
+    pub(crate) fn usage(&self, name: &Name) -> Usage {
+        if self.mentions(u32::MAX, name) {
+            Usage::Used
+        } else {
+            Usage::Unused
+        }
+    }
+
     /// Whether a variable is in it, as far as that is seen within so many levels; beyond them it counts as one that is.
     #[cycle(mentioning)]
     fn mentions(&self, levels: u32, name: &Name) -> bool {
@@ -132,7 +149,7 @@ impl Resolved {
             ),
             Resolved::Part(e, ..) | Resolved::Unary(_, e) => e.mentions(levels, name),
             Resolved::Binary(_, a, b) => a.mentions(levels, name) || b.mentions(levels, name),
-            Resolved::Joined(_, own, set, body) | Resolved::Counted(_, _, own, set, body) => {
+            Resolved::Joined(_, own, _, set, body) | Resolved::Counted(_, _, own, _, set, body) => {
                 set.mentions(levels, name) || !is_named(own, name) && body.mentions(levels, name)
             }
         }
@@ -152,7 +169,7 @@ fn one_mentions(es: &[Resolved], levels: u32, name: &Name) -> bool {
 
 impl<'a> Quantified<'a> {
     /// Whether the variable is probably in the body.
-    pub(crate) fn is_used(self, levels: u32) -> bool {
-        self.body.mentions(levels, self.name)
+    pub(crate) fn is_used(self) -> bool {
+        matches!(self.usage, Usage::Used)
     }
 }

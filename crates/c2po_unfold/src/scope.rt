@@ -14,6 +14,7 @@ ghost use Rattle.c2po_unfold.specs.Values.{Value, members};
 use crate::path::{Path, Turn};
 use crate::resolved::{Resolved, Row};
 use crate::summary::Summary;
+use crate::together::TOGETHER;
 use crate::values::Stored;
 use mltl_base::Name;
 
@@ -56,15 +57,34 @@ pub enum Scope<'a> {
         draw: Draw<'a>,
         outer: &'a Scope<'a>,
     },
+    /// The variable is one thing in the cases whose number at the level is marked, and another one in all others.
+    Parted {
+        name: &'a Name,
+        marks: &'a Marks,
+        level: usize,
+        like: &'a Scope<'a>,
+        others: &'a Scope<'a>,
+        outer: &'a Scope<'a>,
+    },
 }
 
-/// Which member of a set each case draws.
+/// Which numbers at a level are marked.
+#[derive(Clone, Copy)]
+pub struct Marks {
+    pub some: [bool; TOGETHER],
+}
+
+/// What cases draw.
 #[derive(Clone, Copy)]
 pub enum Draw<'a> {
-    /// The first one, in each case.
+    /// The first member, in each case.
     First,
-    /// That of the turn with the number that a case has at the level.
+    /// The member of the turn with the number that a case has at the level.
     Turned { turns: &'a [Turn], level: usize },
+    /// The member that a choice has for a case.
+    Chosen(Choice<'a>),
+    /// Whether the number that a case has at the level is marked.
+    Marked { marks: &'a Marks, level: usize },
 }
 
 /// What differs from case to case: one of these members, or any value where that isn't listed.
@@ -75,13 +95,38 @@ pub struct Choice<'a> {
     pub level: usize,
 }
 
-/// A member of a set in a case: what is known of it, and the stored value that it is, if it is one.
+/// A member of a set in a case.
 #[derive(Clone, Copy)]
-pub struct Member {
-    pub summary: Summary,
-    pub stored: Option<Stored>,
-    /// Which member of the set it is.
-    pub index: usize,
+pub enum Member {
+    /// A stored struct's value or set.
+    Held {
+        stored: Stored,
+        /// Which member of the set it is.
+        index: usize,
+    },
+    /// A stored integer or formula of which this is known.
+    Leaf {
+        summary: Summary,
+        stored: Stored,
+        /// Which member of the set it is.
+        index: usize,
+    },
+    /// Another integer or formula of which this is known.
+    Known(Summary),
+}
+
+impl Member {
+    /// The stored value that it is, if it is one.
+    #[inline(always)]
+    pub(crate) fn stored(&self) -> Option<Stored>
+        ensures { (m : Mode) (u : Unfolding) (v : Value) → IsMember m u self.now v
+            → IfSome result (λ s. Holds u s v) }
+    {
+        match self {
+            Member::Held { stored, .. } | Member::Leaf { stored, .. } => Some(*stored),
+            Member::Known(_) => None,
+        }
+    }
 }
 
 impl<'a> Choice<'a> {
@@ -118,9 +163,13 @@ impl<'a> Choice<'a> {
             → IsVaried (chosen m (path_of path.now)) u self.entry w → RowsLead u rows.now w v
             → IfSome result (λ s. Holds u s.now v) }
     {
-        let member = self.member(path)?;
-        let stored = member.stored?;
-        let row = rows.get(member.index)?;
+        let (stored, index) = match self.member(path)? {
+            Member::Held { stored, index } | Member::Leaf { stored, index, .. } => {
+                (*stored, *index)
+            }
+            Member::Known(_) => return None,
+        };
+        let row = rows.get(index)?;
         if row.member.is(stored) {
             Some(&row.found)
         } else {
@@ -137,11 +186,21 @@ impl<'a> Draw<'a> {
             → IfSome result (λ j. slice_get (members s) j ≡ Some v) }
     {
         match self {
-            Draw::First => Some(0),
             Draw::Turned { turns, level } => {
                 let turn = turns.get(path.at(level)?)?;
                 Some(turn.member)
             }
+            Draw::First => Some(0),
+            Draw::Chosen(_) | Draw::Marked { .. } => None,
+        }
+    }
+
+    /// The level at which cases draw.
+    pub(crate) fn level(self) -> usize {
+        match self {
+            Draw::Turned { level, .. } | Draw::Marked { level, .. } => level,
+            Draw::Chosen(choice) => choice.level,
+            Draw::First => 0,
         }
     }
 }

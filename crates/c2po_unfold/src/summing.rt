@@ -189,11 +189,23 @@ impl Unfolding {
             Resolved::Number(n) => Summary::token(Fact::constant(*n), room),
             Resolved::Unary(op, a) => self.unary(at, *op, a, room),
             Resolved::Binary(op, a, b) => self.binary(at, *op, a, b, room),
-            Resolved::Joined(op, name, set, body) => {
-                self.joined_bodies(at, *op, Quantified { name, set, body }, room)
+            Resolved::Joined(op, name, usage, set, body) => {
+                let bodies = Quantified {
+                    name,
+                    usage: *usage,
+                    set,
+                    body,
+                };
+                self.joined_bodies(at, *op, bodies, room)
             }
-            Resolved::Counted(op, number, name, set, body) => {
-                self.counted_bodies(at, *op, *number, Quantified { name, set, body }, room)
+            Resolved::Counted(op, number, name, usage, set, body) => {
+                let bodies = Quantified {
+                    name,
+                    usage: *usage,
+                    set,
+                    body,
+                };
+                self.counted_bodies(at, *op, *number, bodies, room)
             }
             _ => Summary::token(Fact::truth(), room),
         }

@@ -9,13 +9,14 @@ ghost use Rattle.c2po_unfold.specs.declared.scope.Head.TheVariants.{Held as Held
 ghost use Rattle.c2po_unfold.specs.declared.values.Stored.{Stored as Held};
 ghost use Rattle.c2po_unfold.specs.Ahead.{AreLight, AreListed, GatheredFor, HasMember, IsAhead, IsAheadIn, IsTurnAhead, KnownFor, RowsLead};
 ghost use Rattle.c2po_unfold.specs.Bodies.{MeetsBodyIn};
-ghost use Rattle.c2po_unfold.specs.Cases.{Case, IsOneOf, IsVaried, chosen, path_of};
+ghost use Rattle.c2po_unfold.specs.Cases.{Case, IsMember, IsOneOf, IsVaried, chosen, path_of};
 ghost use Rattle.c2po_unfold.specs.Covering.{Mode};
 ghost use Rattle.c2po_unfold.specs.Environment.{Env, value_in};
 ghost use Rattle.c2po_unfold.specs.Heads.{AreSets, IsHere, HeadsIn};
 ghost use Rattle.c2po_unfold.specs.Holding.{Holds};
 ghost use Rattle.c2po_unfold.specs.Resolving.{IsBound, bodies_of, resolved_bodies, resolved_body, resolved_value};
 ghost use Rattle.c2po_unfold.specs.Scopes.{MeetsIn, names_of};
+ghost use Rattle.c2po_unfold.specs.Summaries.{IsSummary};
 ghost use Rattle.c2po_unfold.specs.Values.{Value, connected_all, counted, members as members_of};
 ghost use Rattle.c2po_unfold.specs.declared.path.Path.{Path as CasePath};
 ghost use Rattle.c2po_unfold.specs.declared.resolved.Resolved.{Resolved as Expression};
@@ -35,7 +36,7 @@ use crate::resolved::{Quantified, Resolved, Row};
 use crate::room::Room;
 use crate::scope::{Choice, Draw, Head, Led, Member, Scope, Site};
 use crate::summary::Summary;
-use crate::values::Stored;
+use crate::values::{Location, Stored};
 use crate::{UnfoldFault, Unfolding};
 use mltl_base::{CountOp, LogicOp, Name};
 
@@ -234,16 +235,26 @@ impl Unfolding {
             return Err(Stop::Alone);
         }
         match e {
-            Resolved::Joined(op, name, set, body) => {
-                let bodies = Quantified { name, set, body };
+            Resolved::Joined(op, name, usage, set, body) => {
+                let bodies = Quantified {
+                    name,
+                    usage: *usage,
+                    set,
+                    body,
+                };
                 let sets = self.sets_in(at, cases, bodies.set)?;
                 if let SetsIn::Drawn(here, draw) = &sets {
                     return self.joined_drawn(at, cases, e, *here, *draw, *op, bodies, room);
                 }
                 self.each_joined(at, cases, *op, bodies, &sets, room)
             }
-            Resolved::Counted(op, number, name, set, body) => {
-                let bodies = Quantified { name, set, body };
+            Resolved::Counted(op, number, name, usage, set, body) => {
+                let bodies = Quantified {
+                    name,
+                    usage: *usage,
+                    set,
+                    body,
+                };
                 let sets = self.sets_in(at, cases, bodies.set)?;
                 if let SetsIn::Drawn(_, draw) = &sets {
                     if cases.len() > FEW {
@@ -317,12 +328,7 @@ impl Unfolding {
             let j = round(i, count);
             let stored = members.get(j).ok_or(Stop::Alone)?;
             let index = start.checked_add(j).ok_or(Stop::Alone)?;
-            let member = Member {
-                summary: self.held(*stored),
-                stored: Some(*stored),
-                index,
-            };
-            add(&mut varied, member)?;
+            add(&mut varied, self.member_of(*stored, index))?;
         }
         Ok(varied)
     }
@@ -337,9 +343,36 @@ impl Unfolding {
         let mut all = Vec::with_capacity(self.alloc, cases.len())?;
         for path in cases.paths {
             let member = choice.member(path).ok_or(Stop::Alone)?;
-            add(&mut all, member.summary)?;
+            add(&mut all, self.member_summary(member))?;
         }
         Ok(Each::Own(all))
+    }
+
+    /// The member of a set that is this stored value: what is known of an integer or a formula goes with it.
+    #[inline(always)]
+    pub(crate) fn member_of(&self, stored: Stored, index: usize) -> Member
+        ensures { (m : Mode) (v : Value) → Holds self.now stored v → IsMember m self.now result v }
+    {
+        match stored.location {
+            Location::Leaf(_) => Member::Leaf {
+                summary: self.held(stored),
+                stored,
+                index,
+            },
+            Location::Parts(_) => Member::Held { stored, index },
+        }
+    }
+
+    /// What is known of a member.
+    #[inline(always)]
+    fn member_summary(&self, member: &Member) -> Summary
+        ensures { (m : Mode) (v : Value) → IsMember m self.now member.now v
+            → IsSummary m result v }
+    {
+        match member {
+            Member::Held { stored, .. } => self.held(*stored),
+            Member::Leaf { summary, .. } | Member::Known(summary) => *summary,
+        }
     }
 
     /// What is known in each case of what a column has for the member that it chooses.
@@ -407,6 +440,10 @@ impl Unfolding {
             → resolved_value e.now env ≡ connected_all op (bodies_of bodies.entry env)
             → IfOk result (λ r. KnownFor m r i (resolved_value e.now env)) }
     {
+        let apart = self.joined_apart(at, cases, bodies, here, draw, room)?;
+        if let Some(found) = apart {
+            return Ok(found);
+        }
         let near = cases.len() <= FEW || is_near(at.depth, at.scope, bodies.set, NEAR);
         if near && self.are_lone(at.depth, cases, here, draw)? {
             return self.joined_lone(at, cases, bodies, room);
@@ -563,7 +600,7 @@ impl Unfolding {
         ensures start { IfOk result (λ r. r.start ≡ i) }
         ensures some { IfOk result (λ r. 0 < r.count) }
     {
-        if self.shared_count(set) > Some(1) && !bodies.is_used(at.depth) {
+        if self.shared_count(set) > Some(1) && !bodies.is_used() {
             return self.same_bodies(at, cases, bodies, set, i, room);
         }
         let few = cases.len() <= FEW;

@@ -101,7 +101,7 @@ impl Unfolding {
     }
 
     /// The stored value that each case chooses.
-    fn chosen(&self, choice: Choice<'_>, cases: Cases<'_>) -> Result<Vec<Stored>, Stop>
+    pub(crate) fn chosen(&self, choice: Choice<'_>, cases: Cases<'_>) -> Result<Vec<Stored>, Stop>
         ensures { (m : Mode) (i : ℕ) (p : CasePath) (v : Value)
             → slice_get cases.entry.paths.now i ≡ Some p
             → IsVaried (chosen m (path_of p)) self.now choice.entry v
@@ -110,13 +110,13 @@ impl Unfolding {
         let mut all = Vec::with_capacity(self.alloc, cases.len())?;
         for path in cases.paths {
             let member = choice.member(path).ok_or(Stop::Alone)?;
-            add(&mut all, member.stored.ok_or(Stop::Alone)?)?;
+            add(&mut all, member.stored().ok_or(Stop::Alone)?)?;
         }
         Ok(all)
     }
 
     /// What a column has for the member that each case chooses.
-    fn found_in(
+    pub(crate) fn found_in(
         &self,
         choice: Choice<'_>,
         rows: &[Row],
@@ -137,7 +137,7 @@ impl Unfolding {
     }
 
     /// The part of each of these values that a field names; another value is its own part.
-    fn parts_of(
+    pub(crate) fn parts_of(
         &self,
         scope: &Scope<'_>,
         wholes: &[Stored],
@@ -189,12 +189,7 @@ impl Unfolding {
             (AreStored self.now values.now (length values.now) all.old.items all.new.items) }
     {
         for stored in values {
-            let member = Member {
-                summary: self.held(*stored),
-                stored: Some(*stored),
-                index,
-            };
-            add(&mut *all, member)?;
+            add(&mut *all, self.member_of(*stored, index))?;
         }
         Ok(())
     }

@@ -1,18 +1,18 @@
-use Rattle.std.proofs.Common.{inl, inr, position, ap, sym, subst, refl, ◌≡◌, ◌∙◌, Some, IfOk, IfSome}
+use Rattle.std.proofs.Common.{inl, inr, position, ap, sym, subst, refl, ◌≡◌, ◌∙◌, Some, IfOk}
 use Rattle.std.specs.Str.{bytes_eq}
 use Rattle.c2po_unfold.specs.Cases.{chosen, path_of}
-use Rattle.c2po_unfold.specs.declared.values.Stored.{Stored}
 use Rattle.c2po_unfold.specs.Environment.{fields_in, value_in}
-use Rattle.c2po_unfold.specs.Heads.{HeadsIn, IsEntry, IsShared}
+use Rattle.c2po_unfold.specs.Heads.{HeadsIn, IsShared}
 use Rattle.c2po_unfold.specs.Holding.{Holds}
 use Rattle.c2po_unfold.specs.Resolving.{AllResolved, resolved_value, resolved_values}
-use Rattle.c2po_unfold.specs.Scopes.{names_of}
+use Rattle.c2po_unfold.specs.Scopes.{IsEntry, names_of}
 use Rattle.c2po_unfold.specs.Values.{built, grouped}
 use Rattle.c2po_unfold.proofs.Columns.{column_bound, column_holds}
+use Rattle.c2po_unfold.proofs.Cases.{marked_once}
 use Rattle.c2po_unfold.proofs.Leading.{known_holds, found_holds}
 use Rattle.c2po_unfold.proofs.Members.{resolved_at}
 use Rattle.c2po_unfold.proofs.Parts.{member_held, member_open, picked_open}
-use Rattle.c2po_unfold.proofs.Pathwise.{column_meets, column_same, field_same, variable_bound, variable_same, whole_meets}
+use Rattle.c2po_unfold.proofs.Pathwise.{column_meets, column_same, field_same, near_here, variable_bound, variable_same, whole_meets}
 use Rattle.c2po_unfold.proofs.Rows.{resolved_of-Build, resolved_of-Group, are_resolved-Build, are_resolved-Group}
 use Rattle.c2po_unfold.proofs.Several.{lent_at}
 use Rattle.c2po_unfold.proofs.unfolding.Unfolding.+drawing.Goals as goal
@@ -113,8 +113,11 @@ head_in-returns-in-Variable t c = λ m base env i p inside h.
     let e = c.args.e.now in
     let x = c.in-Variable.name in
     let bound = variable_bound k u base c.args.scope.now env e x h c.in-Variable.is in
+    let near = c.entry-entry.ensures.near k u base env h.fits bound in
     subst (λ w. IfOk c.entry_in.result (λ r. IsShared k u base r w)) (sym (variable_same env e x c.in-Variable.is))
-    (c.entry_in.ensures m base i p (value_in (env x)) inside (env, h, sym (variable_same env e x c.in-Variable.is)) (c.entry.ensures k u base env h.fits bound))
+    (c.entry_in.ensures m base i p (value_in (env x)) inside
+    (near_here k u base c.entry-entry.result.now near.0 e x (value_in (env x)) c.in-Variable.is near.1 near.2 near.3)
+    (c.entry-entry.ensures.entry k u base env h.fits bound))
 
 pub head_in-returns-in-Part : goal.head_in-returns-in-Part
 head_in-returns-in-Part t c = λ m base env i p inside h.
@@ -151,23 +154,29 @@ entry_in-returns-in-Some-written_member t c = λ m base i p v inside here h.
     subst (λ w. IfOk c.head_in-in-Some-written_member.result (λ r. IsShared k u base r w)) (sym own.1)
     (c.head_in-in-Some-written_member.ensures m base g.0 i p inside own.0)
 
-pub member_in-returns-in_ok-set-in-Varied : goal.member_in-returns-in_ok-set-in-Varied
-member_in-returns-in_ok-set-in-Varied t c = λ m base j p s v inside here heads q.
+pub member_in-returns-in-Some : goal.member_in-returns-in-Some
+member_in-returns-in-Some t c = λ m base j p s v inside here heads q.
     let u = c.args.self.now in
     let k = chosen m (path_of p) in
-    let varied = subst (λ h. HeadsIn k u base h s) c.in-Varied.is heads in
-    let held = subst (λ o. IfSome o (λ (r : Stored). Holds u r s)) c.in_ok-set-in-Varied.ensures.ok_part
-    (c.stored.ensures m u p s (c.in-Some.ensures j p inside) varied) in
-    c.member_in.ensures m base j p s v inside here held q
+    c.member_in.ensures m base j p s v inside here (c.in-Some.ensures m u j p s inside (subst (λ h. HeadsIn k u base h s) c.in-Varied.is heads)) q
 
-pub part_in-returns-in_ok-whole-in-Varied : goal.part_in-returns-in_ok-whole-in-Varied
-part_in-returns-in_ok-whole-in-Varied t c = λ m base i p v w inside part here heads.
+pub part_in-returns-in-Some : goal.part_in-returns-in-Some
+part_in-returns-in-Some t c = λ m base i p v w inside part here heads.
     let u = c.args.self.now in
     let k = chosen m (path_of p) in
-    let varied = subst (λ h. HeadsIn k u base h v) c.in-Varied.is heads in
-    let held = subst (λ o. IfSome o (λ (r : Stored). Holds u r v)) c.in_ok-whole-in-Varied.ensures.ok_part
-    (c.stored.ensures m u p v (c.in-Some.ensures i p inside) varied) in
-    c.part_in.ensures m base i p v w inside part here held
+    c.part_in.ensures m base i p v w inside part here (c.in-Some.ensures m u i p v inside (subst (λ h. HeadsIn k u base h v) c.in-Varied.is heads))
+
+pub entry_in-returns-in-Some-true : goal.entry_in-returns-in-Some-true
+entry_in-returns-in-Some-true t c = λ m base i p v inside here h.
+    let k = chosen m (path_of p) in
+    let g = subst (λ s. IsEntry k c.args.self.now base s v) c.in-Parted.is h in
+    c.entry_in.ensures m base i p v inside here (g.2 (marked_once k _ _ g.0 _ g.1 (c.in-Some-true.ensures m i p inside) ∙ c.in-Some-true.field-0-test))
+
+pub entry_in-returns-in-Some-false : goal.entry_in-returns-in-Some-false
+entry_in-returns-in-Some-false t c = λ m base i p v inside here h.
+    let k = chosen m (path_of p) in
+    let g = subst (λ s. IsEntry k c.args.self.now base s v) c.in-Parted.is h in
+    c.entry_in-in-Some-false.ensures m base i p v inside here (g.3 (marked_once k _ _ g.0 _ g.1 (c.in-Some-false.ensures m i p inside) ∙ c.in-Some-false.field-0-test))
 
 pub part_in-returns-in-Held : goal.part_in-returns-in-Held
 part_in-returns-in-Held t c = λ m base i p v w inside part here heads.

@@ -1,4 +1,4 @@
-use Rattle.std.proofs.Common.{inl, inr, position, rules, FitsSigned, w64, ℕ, ◌≡◌, ◌+◌, ◌-◌, ◌*◌, ◌<◌, ◌≤◌, List, Bor, Vec, Global, Some, IfOk, IfSome, refl, sym, subst, ap, ◌∙◌, length, get_or, slice_get, take, false, arith, []}
+use Rattle.std.proofs.Common.{inl, inr, position, rules, FitsSigned, w64, ℕ, ◌≡◌, ◌+◌, ◌-◌, ◌*◌, ◌<◌, ◌≤◌, List, Bor, Vec, Global, Some, IfOk, IfSome, refl, sym, subst, ap, ◌∙◌, length, get_or, slice_get, take, false, arith, [], map, ◌∷◌}
 use Rattle.std.proofs.lemmas.Int.{to_z-of_z}
 use Rattle.mltl_base.specs.declared.operators.LogicOp.TheVariants.{And}
 use Rattle.mltl_base.specs.Atoms.{constant}
@@ -9,13 +9,13 @@ use Rattle.c2po_unfold.specs.Along.{IsAlong}
 use Rattle.c2po_unfold.specs.Cases.{IsVaried, chosen, path_of}
 use Rattle.c2po_unfold.specs.Environment.{bind, fields_in, value_in}
 use Rattle.c2po_unfold.specs.Facts.{Tells}
-use Rattle.c2po_unfold.specs.Heads.{AreSets, HeadsIn, IsEntry, IsLed}
-use Rattle.c2po_unfold.specs.Holding.{Holds}
+use Rattle.c2po_unfold.specs.Heads.{AreSets, HeadsIn, IsLed, IsOnly, IsPartIn, IsShared}
 use Rattle.c2po_unfold.specs.Resolving.{AllResolved, IsResolved, resolved_bodies, resolved_body, resolved_value, resolved_values}
-use Rattle.c2po_unfold.specs.Scopes.{names_of}
+use Rattle.c2po_unfold.specs.declared.scope.Scope.{Scope}
+use Rattle.c2po_unfold.specs.Scopes.{FitsIn, IsEntry, names_of}
 use Rattle.c2po_unfold.specs.Summaries.{IsSummary}
 use Rattle.c2po_unfold.specs.Values.{built, grouped, connected_all, counted, integer, members, truth_value}
-use Rattle.c2po_unfold.proofs.Cases.{binary_meets, binary_same, body_meets, body_further, varied_here, part_meets, unary_meets, unary_same}
+use Rattle.c2po_unfold.proofs.Cases.{binary_meets, binary_same, body_meets, body_further, marked_once, only_of_two, varied_here, part_meets, unary_meets, unary_same}
 use Rattle.c2po_unfold.proofs.Columns.{column_bound, column_holds}
 use Rattle.c2po_unfold.proofs.Turnwise.{light_ahead, meets_further, some_light}
 use Rattle.c2po_unfold.proofs.Loops.{bodies_by, bodies_count, body_at, joined_one, meets_within, member_at, none_left}
@@ -23,7 +23,7 @@ use Rattle.std.proofs.lemmas.List.{take_all}
 use Rattle.c2po_unfold.proofs.Joining.{gathered_next, gathered_start, joined_all, joined_more, joined_start}
 use Rattle.c2po_unfold.proofs.Leading.{found_holds, known_holds}
 use Rattle.c2po_unfold.proofs.Parts.{member_held, member_open, picked_open}
-use Rattle.c2po_unfold.proofs.Pathwise.{column_meets, column_same, field_same, whole_meets}
+use Rattle.c2po_unfold.proofs.Pathwise.{column_meets, column_same, field_same, variable_bound, variable_same, whole_meets}
 use Rattle.c2po_unfold.proofs.Rows.{are_resolved-Build, are_resolved-Group, resolved_of-Build, resolved_of-Group}
 use Rattle.c2po_unfold.specs.Lanes.{IsHeldSet, IsSetIn}
 use Rattle.c2po_unfold.specs.declared.path.Turn.{Turn}
@@ -32,6 +32,7 @@ use Rattle.c2po_unfold.proofs.Members.{found_at, resolved_at}
 use Rattle.c2po_unfold.specs.declared.resolved.Resolved.{Resolved}
 use Rattle.c2po_unfold.specs.declared.scope.Member.{Member}
 use Rattle.std.proofs.lemmas.Option.{same_Some, slice_get-get_or, slice_get_within}
+use Rattle.c2po_unfold.specs.declared.each.Each.{Each}
 use Rattle.c2po_unfold.specs.declared.known.Ahead.{Ahead}
 use Rattle.c2po_unfold.specs.declared.values.Stored.{Stored}
 use Rattle.c2po_unfold.specs.declared.summary.Summary.{Summary}
@@ -619,13 +620,22 @@ each_choice-returns-in-End t c = λ m base env i p v inside h varied along.
     let same = subst (λ d. IsAlong k c.args.self.now base d (resolved_value c.args.e.now env) v) c.in-End.is along in
     c.each_member.ensures m i p v inside (subst (IsVaried k c.args.self.now c.args.choice) same varied)
 
-pub each_choice-returns-in_ok-stored-in-Some : goal.each_choice-returns-in_ok-stored-in-Some
-each_choice-returns-in_ok-stored-in-Some t c = λ m base env i p v inside h varied along.
-    let u = c.args.self.now in
-    let k = chosen m (path_of p) in
+pub each_choice-returns-in-Some : goal.each_choice-returns-in-Some
+each_choice-returns-in-Some t c = λ m base env i p v inside h varied along.
     let w = resolved_value c.args.e.now env in
-    let held = subst (λ o. IfSome o (λ (r : Stored). Holds u r w)) c.in_ok-stored-in-Some.ensures.ok_part (c.stored.ensures m u p w (c.in-Some.ensures i p inside) varied) in
-    c.each_end.ensures m k base i w v held along
+    c.each_end.ensures m (chosen m (path_of p)) base i w v (c.in-Some.ensures m c.args.self.now i p w inside varied) along
+
+pub each_entry-returns-in-Some-true : goal.each_entry-returns-in-Some-true
+each_entry-returns-in-Some-true t c = λ m base env i p v inside h entry along.
+    let k = chosen m (path_of p) in
+    let g = subst (λ s. IsEntry k c.args.self.now base s (resolved_value c.args.e.now env)) c.in-Parted.is entry in
+    c.each_entry.ensures m base env i p v inside h (g.2 (marked_once k _ _ g.0 _ g.1 (c.in-Some-true.ensures m i p inside) ∙ c.in-Some-true.field-0-test)) along
+
+pub each_entry-returns-in-Some-false : goal.each_entry-returns-in-Some-false
+each_entry-returns-in-Some-false t c = λ m base env i p v inside h entry along.
+    let k = chosen m (path_of p) in
+    let g = subst (λ s. IsEntry k c.args.self.now base s (resolved_value c.args.e.now env)) c.in-Parted.is entry in
+    c.each_entry-in-Some-false.ensures m base env i p v inside h (g.3 (marked_once k _ _ g.0 _ g.1 (c.in-Some-false.ensures m i p inside) ∙ c.in-Some-false.field-0-test)) along
 
 pub each_entry-returns-in-Open : goal.each_entry-returns-in-Open
 each_entry-returns-in-Open t c = λ m base env i p v inside h entry along.
@@ -755,6 +765,21 @@ same_bodies-returns-clause-ahead t c = record {
       (c.in_ok-body.ensures m base env i p v inside h));
 }
 
+pub joined_only-returns : goal.joined_only-returns
+joined_only-returns t c = λ m op base env i p s inside body only.
+    let q = c.args.bodies in
+    let u = c.args.self.now in
+    let k = chosen m (path_of p) in
+    let w = resolved_body q env only.0 in
+    let known = c.in_ok-each.ensures m base (bind q.name.now only.0 env) i p inside
+    (record {
+      fits = subst (λ o. IfSome o (λ (r : Scope). FitsIn k u base r (bind q.name.now only.0 env))) c.in_ok-scope.ensures.ok_part (c.renamed.ensures.fits k u base env only.0 body.fits only.2);
+      resolved = subst (λ xs. IsResolved u base xs q.body.now)
+          (sym (subst (λ o. IfSome o (λ (r : Scope). names_of r ≡ q.name.now ∷ names_of c.args.at.scope.now)) c.in_ok-scope.ensures.ok_part c.renamed.ensures.names)) body.resolved;
+    }) in
+    subst (λ vs. IfOk c.formulas.result (λ r. KnownFor m r i (connected_all op vs))) (ap (map (λ v. resolved_body q env v)) (sym only.1))
+    (c.formulas.ensures m op i w (subst (λ n. i < n) (sym c.len.ensures) (slice_get_within c.args.cases.paths.now i p inside)) known)
+
 pub joined_lone-returns : goal.joined_lone-returns
 joined_lone-returns t c = λ m op base env i p inside set body size.
     let s = resolved_value c.args.bodies.set.now env in
@@ -781,6 +806,65 @@ joined_drawn-returns-then-len-gt-FEW t c = λ m base env i p inside h set body h
 pub joined_drawn-returns : goal.joined_drawn-returns
 joined_drawn-returns t c = λ m base env i p inside h set body here same.
     subst (λ w. IfOk c.joined_led.result (λ r. KnownFor m r i w)) (sym same) (c.joined_led.ensures m base env i p inside set body)
+
+pub joined_drawn-returns-in-Some : goal.joined_drawn-returns-in-Some
+joined_drawn-returns-in-Some t c = λ m base env i p inside h set body here same.
+    let s = resolved_value c.args.bodies.set.now env in
+    subst (KnownFor m c.in-Some.found i) (sym same)
+    (subst (λ o. IfSome o (λ (r : Each). KnownFor m r i (connected_all c.args.op (resolved_bodies c.args.bodies env s)))) c.in-Some.is
+    (c.in_ok-apart.ensures m c.args.op base env i p s inside body here))
+
+pub each_entry-returns-in-None-agreed : goal.each_entry-returns-in-None-agreed
+each_entry-returns-in-None-agreed t c = λ m base env i p v inside h entry along.
+    c.each_parted-in-None-agreed.ensures m base i p v inside (env, h, along)
+
+pub joined_apart-returns-in-Some : goal.joined_apart-returns-in-Some
+joined_apart-returns-in-Some t c = λ m op base env i p s inside body here.
+    subst (λ o. IfSome o (λ (r : Each). KnownFor m r i (connected_all op (resolved_bodies c.args.bodies env s)))) c.in-Some.is
+    (c.in_ok-along.ensures m op base env i p s inside body here)
+
+pub joined_along-returns : goal.joined_along-returns
+joined_along-returns t c = λ m op base env i p s inside body here.
+    let u = c.args.self.now in
+    let k = chosen m (path_of p) in
+    let e = c.args.here.expr.now in
+    let x = c.in-Variable.name in
+    let bound = variable_bound k u base c.args.here.scope.now here.0 e x here.1 c.in-Variable.is in
+    let g = subst (λ r. IsEntry k u base r (value_in (here.0 x))) c.in-Parted.is (c.entry.ensures.entry k u base here.0 here.1.fits bound) in
+    let part = subst (λ w. IsPartIn k u base c.args.here.part w s) (variable_same here.0 e x c.in-Variable.is) here.2 in
+    c.joined_twofold.ensures m op base env i p s inside body (
+      g.0,
+      g.1,
+      λ is. c.in_ok-first.ensures k base (value_in (here.0 x)) s (g.2 is) part,
+      λ is. c.in_ok-second.ensures k base (value_in (here.0 x)) s (g.3 is) part,
+    )
+
+pub joined_split-returns : goal.joined_split-returns
+joined_split-returns t c = λ m op base env i p s inside body here.
+    let u = c.args.self.now in
+    let k = chosen m (path_of p) in
+    let split = c.in_ok-parted.ensures m i p inside in
+    c.joined_twofold.ensures m op base env i p s inside body (
+      split.0,
+      split.1,
+      λ is.
+          let among = split.2 is in
+          subst (λ r. IsShared k u base r s) c.in-Head.is
+          (c.in_ok-first.ensures m base among.0 p s (subst (λ ps. slice_get ps among.0 ≡ Some p) (sym c.as_slice.ensures.value) among.1) here),
+      λ is.
+          let among = split.3 is in
+          subst (λ r. IsShared k u base r s) c.in-Head-second.is
+          (c.in_ok-second.ensures m base among.0 p s (subst (λ ps. slice_get ps among.0 ≡ Some p) (sym c.as_slice-2.ensures.value) among.1) here),
+    )
+
+pub joined_twofold-returns : goal.joined_twofold-returns
+joined_twofold-returns t c = λ m op base env i p s inside body two.
+    let u = c.args.self.now in
+    let k = chosen m (path_of p) in
+    c.in_ok-joined_only.ensures m op base env i p s inside body
+    (only_of_two k u base s c.in-Some.like c.in-Some-only.others c.args.two.level c.args.two.marks.now.some two.0 two.1
+    (λ is. subst (λ o. IfSome o (λ (r : Scope). IsOnly k u base r s)) c.in-Some.is (c.only.ensures k base s (two.2 is)))
+    (λ is. subst (λ o. IfSome o (λ (r : Scope). IsOnly k u base r s)) c.in-Some-only.is (c.only-2.ensures k base s (two.3 is))))
 
 pub each_quantifier-returns-in-Drawn : goal.each_quantifier-returns-in-Drawn
 each_quantifier-returns-in-Drawn t c = λ m base env i p inside h.

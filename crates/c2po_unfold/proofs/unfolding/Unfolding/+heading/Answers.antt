@@ -3,9 +3,9 @@ use Rattle.std.specs.Str.{bytes_eq}
 use Rattle.c2po_unfold.specs.Values.{built, grouped, members}
 use Rattle.c2po_unfold.specs.Cases.{IsDrawn}
 use Rattle.c2po_unfold.specs.Environment.{fields_in, value_in}
-use Rattle.c2po_unfold.specs.Heads.{HeadsIn, IsEntry}
+use Rattle.c2po_unfold.specs.Heads.{HeadsIn}
 use Rattle.c2po_unfold.specs.Resolving.{AllResolved, resolved_value, resolved_values}
-use Rattle.c2po_unfold.specs.Scopes.{names_of}
+use Rattle.c2po_unfold.specs.Scopes.{IsEntry, names_of}
 use Rattle.c2po_unfold.proofs.Columns.{column_bound, column_holds}
 use Rattle.c2po_unfold.proofs.Leading.{known_holds, found_holds}
 use Rattle.c2po_unfold.proofs.Members.{found_at, resolved_at}
@@ -137,4 +137,4 @@ head-returns-in_ok-levels-in-Variable-clause-head t c = λ m base env h.
     let x = c.in-Variable.name in
     let bound = variable_bound m u base c.args.scope.now env e x h c.in-Variable.is in
     subst (λ w. IfOk c.entry_head.result (λ r. HeadsIn m u base r w)) (sym (variable_same env e x c.in-Variable.is))
-    (c.entry_head.ensures.head m base (value_in (env x)) (c.entry.ensures m u base env h.fits bound))
+    (c.entry_head.ensures.head m base (value_in (env x)) (c.entry.ensures.entry m u base env h.fits bound))

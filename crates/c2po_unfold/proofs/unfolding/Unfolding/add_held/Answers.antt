@@ -1,7 +1,6 @@
 use Rattle.std.proofs.Common.{subst, sym, ◌∙◌, IfSome}
 use Rattle.std.proofs.lemmas.Option.{same_Some}
 use Rattle.c2po_unfold.specs.Cases.{IsReached, path_of}
-use Rattle.c2po_unfold.specs.Holding.{Holds}
 use Rattle.c2po_unfold.specs.declared.path.Path.{Path}
 use Rattle.c2po_unfold.specs.Lanes.{IsHeldSet}
 use Rattle.c2po_unfold.proofs.Lanewise.{held_more, own_holds}
@@ -34,5 +33,4 @@ loop-member-preserved c =
     (lent_at sets case c.get.result c.in_ok-set.set c.get.ensures.lookup c.in_ok-set.ensures.ok_part)
     (subst (λ ss. IsHeldSet u ss case s) c.requires.sets holds) in
     let at = lent_at ms k c.get-in-loop-member.result c.in_ok-stored.stored c.get-in-loop-member.ensures.lookup c.in_ok-stored.ensures.ok_part in
-    let held = member_held s u ms k stored v (c.held_members-members.ensures s own) at member in
-    record { known = c.held.ensures.holds m v held; holds = λ r r-is. subst (λ k. Holds u k v) (same_Some stored r r-is) held })
+    c.member_of.ensures m v (member_held s u ms k stored v (c.held_members-members.ensures s own) at member))

@@ -1,6 +1,4 @@
-use Rattle.std.proofs.Common.{subst}
-use Rattle.std.proofs.lemmas.Option.{same_Some, slice_get-get_or}
-use Rattle.c2po_unfold.specs.Holding.{Holds}
+use Rattle.std.proofs.lemmas.Option.{slice_get-get_or}
 use Rattle.c2po_unfold.proofs.Turnwise.{stored_more}
 use Rattle.c2po_unfold.proofs.unfolding.Unfolding.add_stored.Goals as goal
 
@@ -10,5 +8,4 @@ loop-stored-preserved c =
     let ss = c.args.values.now in
     let i = c.loop-stored.stored-index in
     stored_more u ss i _ c.args.all.now.items c.loop-stored.all.items c.add.new.all.items _ c.loop-stored.invariant c.in_ok-add.ensures
-    (slice_get-get_or ss i _ c.loop-stored-test.true)
-    (λ m v h. record { known = c.held.ensures.holds m v h; holds = λ s is. subst (λ r. Holds u r v) (same_Some _ s is) h })
+    (slice_get-get_or ss i _ c.loop-stored-test.true) c.member_of.ensures

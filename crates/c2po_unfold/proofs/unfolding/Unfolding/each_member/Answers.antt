@@ -9,11 +9,11 @@ loop-path-preserved c =
     let u = c.args.self.now in
     let paths = c.args.cases.paths.now in
     let i = c.loop-path.path-index in
-    known_more (OfChoice u c.args.choice paths) i c.loop-path.all.items c.add.new.all.items c.in_ok-member.member.now.summary c.loop-path.invariant
+    known_more (OfChoice u c.args.choice paths) i c.loop-path.all.items c.add.new.all.items c.member_summary.result c.loop-path.invariant
     c.in_ok-add.ensures
     (λ m v h.
     let varied = path_here u c.args.choice paths m i _ v h (slice_get-get_or paths i _ c.loop-path-test.true) in
-    (member_known m u c.member.result c.in_ok-member.member v (c.member.ensures m u v varied) c.in_ok-member.ensures.ok_part).known)
+    c.member_summary.ensures m v (member_known m u c.member.result c.in_ok-member.member v (c.member.ensures m u v varied) c.in_ok-member.ensures.ok_part))
 
 pub returns : goal.returns
 returns c = λ m i p v at h. c.loop-path.invariant.known m i v (omega (arith, c.loop-path-test.false, slice_get_within c.args.cases.paths.now i p at)) (p, at, h)

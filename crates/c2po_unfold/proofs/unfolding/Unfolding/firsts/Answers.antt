@@ -1,6 +1,5 @@
-use Rattle.std.proofs.Common.{refl, subst, arith}
-use Rattle.std.proofs.lemmas.Option.{same_Some, slice_get-get_or, slice_get_within}
-use Rattle.c2po_unfold.specs.Holding.{Holds}
+use Rattle.std.proofs.Common.{refl, arith}
+use Rattle.std.proofs.lemmas.Option.{slice_get-get_or, slice_get_within}
 use Rattle.c2po_unfold.proofs.Lanewise.{OfFirstMember}
 use Rattle.c2po_unfold.proofs.Members.{found_at}
 use Rattle.c2po_unfold.proofs.Parts.{member_held}
@@ -19,8 +18,7 @@ loop-set-preserved c =
     (λ m v h.
     let set = for_here u ss i _ h.0 h.1 (slice_get-get_or ss i _ c.loop-set-test.true) in
     let at = found_at _ _ _ _ refl c.in-Some.ensures.lookup.3.0 c.in-Some.ensures.lookup.1 in
-    let holds = member_held h.0 u ms 0 own v (c.held_members.ensures h.0 set) at h.2 in
-    record { known = c.held.ensures.holds m v holds; holds = λ s is. subst (λ r. Holds u r v) (same_Some own s is) holds })
+    c.member_of.ensures m v (member_held h.0 u ms 0 own v (c.held_members.ensures h.0 set) at h.2))
 
 pub returns : goal.returns
 returns c = λ m i s v h at. c.loop-set.invariant.known m i v (omega (arith, c.loop-set-test.false, slice_get_within c.args.sets.now i h.0 h.1)) (s, h, at)

@@ -1,9 +1,8 @@
 use Rattle.std.proofs.Common.{◌≡◌, ◌∙◌, position, refl, subst, sym, ap}
 use Rattle.std.specs.Str.{bytes_eq}
 use Rattle.c2po_unfold.specs.Environment.{fields_in, value_in}
-use Rattle.c2po_unfold.specs.Heads.{IsEntry}
 use Rattle.c2po_unfold.specs.Resolving.{AllResolved, resolved_value, resolved_values}
-use Rattle.c2po_unfold.specs.Scopes.{names_of}
+use Rattle.c2po_unfold.specs.Scopes.{IsEntry, names_of}
 use Rattle.c2po_unfold.specs.Values.{built}
 use Rattle.c2po_unfold.proofs.Members.{found_at, resolved_at}
 use Rattle.c2po_unfold.proofs.Parts.{picked_open}
@@ -18,7 +17,7 @@ returns c = λ m base env h p.
     let name = c.in-Variable.name in
     let within = c.in-Open.within.now in
     let bound = variable_bound m u base c.args.scope.now env whole name h c.in-Variable.is in
-    let g = subst (λ s. IsEntry m u base s (value_in (env name))) c.in-Open.is (c.entry.ensures m u base env h.fits bound) in
+    let g = subst (λ s. IsEntry m u base s (value_in (env name))) c.in-Open.is (c.entry.ensures.entry m u base env h.fits bound) in
     let all = subst (AllResolved u base (names_of within)) (sym c.as_slice.ensures.value)
     (are_resolved-Build u base (names_of within) c.in-Open.expr.now c.in-Build.owner c.in-Build.parts g.2 c.in-Build.is) in
     let at = found_at _ _ _ _ refl c.in_ok-part.ensures.lookup.3.0 c.in_ok-part.ensures.lookup.1 in
