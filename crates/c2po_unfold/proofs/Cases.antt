@@ -16,11 +16,12 @@ use Rattle.c2po_unfold.specs.declared.scope.Draw.TheVariants.{Chosen, First, Mar
 use Rattle.c2po_unfold.specs.declared.scope.Member.{Member}
 use Rattle.c2po_unfold.specs.declared.scope.Scope.{Scope, Top, Open', Held', Covered', Varied', Drawn', Parted'}
 use Rattle.c2po_unfold.specs.declared.unfolding.Unfolding.{Unfolding}
+use Rattle.c2po_unfold.specs.declared.ways.Ways.{Ways, End, Way'}
 use Rattle.c2po_unfold.specs.Bodies.{MeetsBodyIn}
 use Rattle.c2po_unfold.specs.Cases.{Case, only, chosen, mode_in, IsDrawn, IsMarked, IsMember, IsReached, IsVaried}
 use Rattle.c2po_unfold.specs.Covering.{Mode}
 use Rattle.c2po_unfold.specs.Environment.{Env}
-use Rattle.c2po_unfold.specs.Heads.{HeadsIn, IsOnly}
+use Rattle.c2po_unfold.specs.Heads.{HeadsIn, IsAfter, IsOnly}
 use Rattle.c2po_unfold.specs.Scopes.{FitsIn, IsEntry, MeetsIn, names_of}
 use Rattle.c2po_unfold.specs.Summaries.{IsOfLeaf}
 use Rattle.c2po_unfold.specs.Values.{Value, members}
@@ -134,6 +135,19 @@ only_of_two c u base s like others level marks true marked first rest =
     let only = first refl in (only.0, only.1, (true, marked, λ is. only.2, λ is. absurd (cc)))
 only_of_two c u base s like others level marks false marked first rest =
     let only = rest refl in (only.0, only.1, (false, marked, λ is. absurd (cc), λ is. only.2))
+
+-- what follows from what is said of the rest is said of it too
+pub after_all : (c : Case) (u : Unfolding) (base : Env) (ways : Ways) (s : Value) (T S : Type 0) → (T → S) → IsAfter c u base ways s T → IsAfter c u base ways s S
+after_all c u base End s T S f h = f h
+after_all c u base (Way' marks level like q before) s T S f h =
+    after_all c u base before s _ _ (λ way. (way.0, way.1, way.2, λ is. f (way.3 is))) h
+
+-- a set that has one member where a number is marked, and where it isn't what is said of the rest, has it where that follows
+-- from this, or where the rest is none
+pub only_of_last : (c : Case) (u : Unfolding) (base : Env) (s : Value) (like : Scope) (T : Type 0) (b : Bool) →
+    (b ≡ true → IsOnly c u base like s) → (b ≡ false → T) → (T → ⊥) → IsOnly c u base like s
+only_of_last c u base s like T true first rest none = first refl
+only_of_last c u base s like T false first rest none = absurd (none (rest refl))
 
 -- so what holds of the variables around a body holds of them there
 pub body_further : (m : Mode) (old new : List ℕ) (level number : ℕ) (u : Unfolding) (base : Env) (scope : Scope) (env : Env) (q : Quantified) →

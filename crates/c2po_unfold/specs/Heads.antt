@@ -7,7 +7,7 @@ use Rattle.c2po_unfold.specs.declared.scope.Led.{Led}
 use Rattle.c2po_unfold.specs.declared.scope.Led.TheVariants as led
 use Rattle.c2po_unfold.specs.declared.scope.Head.{Head}
 use Rattle.c2po_unfold.specs.declared.scope.Head.TheVariants as head
-use Rattle.c2po_unfold.specs.declared.twofold.Twofold.{Twofold}
+use Rattle.c2po_unfold.specs.declared.ways.Ways.{Ways, End, Way'}
 use Rattle.c2po_unfold.specs.declared.drawing.Here.{Here}
 use Rattle.c2po_unfold.specs.declared.drawing.PartOf.{PartOf}
 use Rattle.c2po_unfold.specs.declared.drawing.SetsIn.{SetsIn}
@@ -124,10 +124,11 @@ abbrev pub IsShared : Case → Unfolding → Env → Shared → Value → Type 0
 IsShared c u base (shared.Head h) v = HeadsIn c u base h v
 IsShared c u base (shared.Apart here draw) v = IsHere c u base here v
 
--- a set has a value in a case, by what it leads to there
-abbrev pub IsTwofold : Case → Unfolding → Env → Twofold → (set : Value) → Type 0
-IsTwofold c u base two s = (b : Bool) × IsMarked c two.level two.marks.now.some b
-    × (b ≡ true → HeadsIn c u base two.like s) × (b ≡ false → HeadsIn c u base two.others s)
+-- a set has the only member that a group says in the cases that are marked for it; in the others this is said of the rest
+abbrev pub IsAfter : Case → Unfolding → Env → Ways → (set : Value) → (rest : Type 0) → Type 0
+IsAfter c u base End s T = T
+IsAfter c u base (Way' marks level like _ before) s T = IsAfter c u base before s ((b : Bool)
+    × IsMarked c level marks.now.some b × (b ≡ true → IsOnly c u base like.now s) × (b ≡ false → T))
 
 -- the set of a quantifier has a value in the case with a number; nothing is said of one that isn't found in all cases
 abbrev pub AreSets : Case → Unfolding → Env → SetsIn → ℕ → Value → Type 0

@@ -33,10 +33,10 @@ pub mod summary;
 pub mod summing;
 mod together;
 mod tracing;
-mod twofold;
 pub mod unfolding;
 mod unused;
 pub mod values;
+mod ways;
 
 pub use fact::{Tenses, first_fault};
 pub use fault::UnfoldFault;

@@ -250,27 +250,6 @@ impl<'a> Cases<'a> {
         Ok(Parted { like, others })
     }
 
-    /// Whether they draw two things, as far as is seen at once.
-    pub(crate) fn are_twofold(self, draw: Draw<'_>) -> bool {
-        let Some(first) = self.paths.get(0) else {
-            return false;
-        };
-        let mut second = 0_usize;
-        for i in 0..self.len() {
-            let (Some(path), Some(other)) = (self.paths.get(i), self.paths.get(second)) else {
-                return false;
-            };
-            if !draw.joins(first, path) {
-                if second == 0 {
-                    second = i;
-                } else if !draw.joins(other, path) {
-                    return false;
-                }
-            }
-        }
-        true
-    }
-
     /// The numbers at the level of a draw of those cases that draw what the first one does.
     pub(crate) fn marks(self, draw: Draw<'_>) -> Marks {
         let mut some = [false; TOGETHER];

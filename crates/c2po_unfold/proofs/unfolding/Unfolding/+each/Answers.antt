@@ -1,4 +1,5 @@
 use Rattle.std.proofs.Common.{inl, inr, position, rules, FitsSigned, w64, ℕ, ◌≡◌, ◌+◌, ◌-◌, ◌*◌, ◌<◌, ◌≤◌, List, Bor, Vec, Global, Some, IfOk, IfSome, refl, sym, subst, ap, ◌∙◌, length, get_or, slice_get, take, false, arith, [], map, ◌∷◌}
+use Rattle.std.proofs.lemmas.Bool.{eqb-true}
 use Rattle.std.proofs.lemmas.Int.{to_z-of_z}
 use Rattle.mltl_base.specs.declared.operators.LogicOp.TheVariants.{And}
 use Rattle.mltl_base.specs.Atoms.{constant}
@@ -6,16 +7,16 @@ use Rattle.c2po_nodes.specs.Nodes.{number}
 use Rattle.c2po_unfold.specs.Ahead.{AreLight, GatheredFor, HasMember, HoldsFor, IsAheadIn, IsListed, KnownFor, IsGathered}
 use Rattle.std.specs.Str.{bytes_eq}
 use Rattle.c2po_unfold.specs.Along.{IsAlong}
-use Rattle.c2po_unfold.specs.Cases.{IsVaried, chosen, path_of}
+use Rattle.c2po_unfold.specs.Cases.{IsAmong, IsVaried, chosen, path_of}
 use Rattle.c2po_unfold.specs.Environment.{bind, fields_in, value_in}
 use Rattle.c2po_unfold.specs.Facts.{Tells}
-use Rattle.c2po_unfold.specs.Heads.{AreSets, HeadsIn, IsLed, IsOnly, IsPartIn, IsShared}
+use Rattle.c2po_unfold.specs.Heads.{AreSets, HeadsIn, IsAfter, IsLed, IsOnly, IsPartIn}
 use Rattle.c2po_unfold.specs.Resolving.{AllResolved, IsResolved, resolved_bodies, resolved_body, resolved_value, resolved_values}
 use Rattle.c2po_unfold.specs.declared.scope.Scope.{Scope}
 use Rattle.c2po_unfold.specs.Scopes.{FitsIn, IsEntry, names_of}
 use Rattle.c2po_unfold.specs.Summaries.{IsSummary}
-use Rattle.c2po_unfold.specs.Values.{built, grouped, connected_all, counted, integer, members, truth_value}
-use Rattle.c2po_unfold.proofs.Cases.{binary_meets, binary_same, body_meets, body_further, marked_once, only_of_two, varied_here, part_meets, unary_meets, unary_same}
+use Rattle.c2po_unfold.specs.Values.{Value, built, grouped, connected_all, counted, integer, members, truth_value}
+use Rattle.c2po_unfold.proofs.Cases.{binary_meets, binary_same, body_meets, body_further, marked_once, after_all, only_of_last, only_of_two, varied_here, part_meets, unary_meets, unary_same}
 use Rattle.c2po_unfold.proofs.Columns.{column_bound, column_holds}
 use Rattle.c2po_unfold.proofs.Turnwise.{light_ahead, meets_further, some_light}
 use Rattle.c2po_unfold.proofs.Loops.{bodies_by, bodies_count, body_at, joined_one, meets_within, member_at, none_left}
@@ -23,7 +24,7 @@ use Rattle.std.proofs.lemmas.List.{take_all}
 use Rattle.c2po_unfold.proofs.Joining.{gathered_next, gathered_start, joined_all, joined_more, joined_start}
 use Rattle.c2po_unfold.proofs.Leading.{found_holds, known_holds}
 use Rattle.c2po_unfold.proofs.Parts.{member_held, member_open, picked_open}
-use Rattle.c2po_unfold.proofs.Pathwise.{column_meets, column_same, field_same, variable_bound, variable_same, whole_meets}
+use Rattle.c2po_unfold.proofs.Pathwise.{column_meets, column_same, field_same, whole_meets}
 use Rattle.c2po_unfold.proofs.Rows.{are_resolved-Build, are_resolved-Group, resolved_of-Build, resolved_of-Group}
 use Rattle.c2po_unfold.specs.Lanes.{IsHeldSet, IsSetIn}
 use Rattle.c2po_unfold.specs.declared.path.Turn.{Turn}
@@ -818,53 +819,82 @@ pub each_entry-returns-in-None-agreed : goal.each_entry-returns-in-None-agreed
 each_entry-returns-in-None-agreed t c = λ m base env i p v inside h entry along.
     c.each_parted-in-None-agreed.ensures m base i p v inside (env, h, along)
 
-pub joined_apart-returns-in-Some : goal.joined_apart-returns-in-Some
-joined_apart-returns-in-Some t c = λ m op base env i p s inside body here.
-    subst (λ o. IfSome o (λ (r : Each). KnownFor m r i (connected_all op (resolved_bodies c.args.bodies env s)))) c.in-Some.is
-    (c.in_ok-along.ensures m op base env i p s inside body here)
-
-pub joined_along-returns : goal.joined_along-returns
-joined_along-returns t c = λ m op base env i p s inside body here.
+pub joined_apart-returns-in-Some-along : goal.joined_apart-returns-in-Some-along
+joined_apart-returns-in-Some-along t c = λ m op base env i p s inside body here.
     let u = c.args.self.now in
     let k = chosen m (path_of p) in
-    let e = c.args.here.expr.now in
-    let x = c.in-Variable.name in
-    let bound = variable_bound k u base c.args.here.scope.now here.0 e x here.1 c.in-Variable.is in
-    let g = subst (λ r. IsEntry k u base r (value_in (here.0 x))) c.in-Parted.is (c.entry.ensures.entry k u base here.0 here.1.fits bound) in
-    let part = subst (λ w. IsPartIn k u base c.args.here.part w s) (variable_same here.0 e x c.in-Variable.is) here.2 in
-    c.joined_twofold.ensures m op base env i p s inside body (
-      g.0,
-      g.1,
-      λ is. c.in_ok-first.ensures k base (value_in (here.0 x)) s (g.2 is) part,
-      λ is. c.in_ok-second.ensures k base (value_in (here.0 x)) s (g.3 is) part,
-    )
+    let near = subst (λ o. IfSome o (λ (r : Bor Scope). (v : Value) × IsPartIn k u base c.args.here.part v s × IsEntry k u base r.now v)) c.in-Some.is (c.parted.ensures k u base s here) in
+    subst (λ o. IfSome o (λ (r : Each). KnownFor m r i (connected_all op (resolved_bodies c.args.bodies env s)))) c.in-Some-along.is
+    (c.in_ok-along.ensures m op base env i p s near.0 inside body near.1 near.2)
 
-pub joined_split-returns : goal.joined_split-returns
-joined_split-returns t c = λ m op base env i p s inside body here.
+pub joined_apart-returns : goal.joined_apart-returns
+joined_apart-returns t c = λ m op base env i p s inside body here. c.joined_groups.ensures m op base env i p s inside body here (i, inside)
+
+pub joined_groups-returns-then-is_empty : goal.joined_groups-returns-then-is_empty
+joined_groups-returns-then-is_empty t c = λ m op base env i p s inside body here after.
     let u = c.args.self.now in
     let k = chosen m (path_of p) in
-    let split = c.in_ok-parted.ensures m i p inside in
-    c.joined_twofold.ensures m op base env i p s inside body (
+    c.in_ok-joined_ways.ensures m op base env i p s inside body (after_all k u base c.args.ways.now s _ _ (λ among.
+    let split = c.in_ok-parted.ensures m among.0 p (subst (λ ps. slice_get ps among.0 ≡ Some p) (sym c.along-2.ensures) among.1) in
+    only_of_last k u base s c.in-Some.like (IsAmong p c.as_slice-others.result.now) split.0
+    (λ is.
+    let like = split.2 is in
+    subst (λ o. IfSome o (λ (r : Scope). IsOnly k u base r s)) c.in-Some.is
+    (c.in_ok-found.ensures m base like.0 p s (subst (λ ps. slice_get ps like.0 ≡ Some p) (sym c.as_slice-group.ensures.value) like.1) here))
+    (λ is. let other = split.3 is in (other.0, subst (λ ps. slice_get ps other.0 ≡ Some p) (sym c.as_slice-others.ensures.value) other.1))
+    (λ other.
+    omega (arith, slice_get_within c.as_slice-others.result.now other.0 p other.1, eqb-true (length c.as_slice-others.result.now) 0 (sym c.is_empty.ensures ∙ c.if-is_empty.true)))) after)
+
+pub joined_groups-returns : goal.joined_groups-returns
+joined_groups-returns t c = λ m op base env i p s inside body here after.
+    let u = c.args.self.now in
+    let k = chosen m (path_of p) in
+    c.joined_groups.ensures m op base env i p s inside body here (after_all k u base c.args.ways.now s _ _ (λ among.
+    let split = c.in_ok-parted.ensures m among.0 p (subst (λ ps. slice_get ps among.0 ≡ Some p) (sym c.along-2.ensures) among.1) in (
       split.0,
       split.1,
       λ is.
-          let among = split.2 is in
-          subst (λ r. IsShared k u base r s) c.in-Head.is
-          (c.in_ok-first.ensures m base among.0 p s (subst (λ ps. slice_get ps among.0 ≡ Some p) (sym c.as_slice.ensures.value) among.1) here),
+          let like = split.2 is in
+          subst (λ o. IfSome o (λ (r : Scope). IsOnly k u base r s)) c.in-Some.is
+          (c.in_ok-found.ensures m base like.0 p s (subst (λ ps. slice_get ps like.0 ≡ Some p) (sym c.as_slice-group.ensures.value) like.1) here),
       λ is.
-          let among = split.3 is in
-          subst (λ r. IsShared k u base r s) c.in-Head-second.is
-          (c.in_ok-second.ensures m base among.0 p s (subst (λ ps. slice_get ps among.0 ≡ Some p) (sym c.as_slice-2.ensures.value) among.1) here),
-    )
+          let other = split.3 is in
+          (other.0, subst (λ ps. slice_get ps other.0 ≡ Some p) (sym c.as_slice-others.ensures.value) other.1),
+    )) after)
 
-pub joined_twofold-returns : goal.joined_twofold-returns
-joined_twofold-returns t c = λ m op base env i p s inside body two.
+pub joined_along-returns-in_default : goal.joined_along-returns-in_default
+joined_along-returns-in_default t c = λ m op base env i p s v inside body part after.
     let u = c.args.self.now in
     let k = chosen m (path_of p) in
-    c.in_ok-joined_only.ensures m op base env i p s inside body
-    (only_of_two k u base s c.in-Some.like c.in-Some-only.others c.args.two.level c.args.two.marks.now.some two.0 two.1
-    (λ is. subst (λ o. IfSome o (λ (r : Scope). IsOnly k u base r s)) c.in-Some.is (c.only.ensures k base s (two.2 is)))
-    (λ is. subst (λ o. IfSome o (λ (r : Scope). IsOnly k u base r s)) c.in-Some-only.is (c.only-2.ensures k base s (two.3 is))))
+    c.in_ok-joined_ways.ensures m op base env i p s inside body (after_all k u base c.args.ways.now s _ _ (λ entry.
+    subst (λ o. IfSome o (λ (r : Scope). IsOnly k u base r s)) c.in-Some.is (c.in_ok-found.ensures k base s v entry part)) after)
+
+pub joined_along-returns : goal.joined_along-returns
+joined_along-returns t c = λ m op base env i p s v inside body part after.
+    let u = c.args.self.now in
+    let k = chosen m (path_of p) in
+    c.joined_along.ensures m op base env i p s v inside body part (after_all k u base c.args.ways.now s _ _ (λ entry. (
+      entry.0,
+      entry.1,
+      λ is.
+          subst (λ o. IfSome o (λ (r : Scope). IsOnly k u base r s)) c.in-Some-found.is
+          (c.in_ok-found-2.ensures k base s v (entry.2 is) part),
+      entry.3,
+    )) (subst (λ r. IsAfter k u base c.args.ways.now s (IsEntry k u base r v)) c.in-Parted.is after))
+
+pub joined_ways-returns-in-End : goal.joined_ways-returns-in-End
+joined_ways-returns-in-End t c = λ m op base env i p s inside body after.
+    let u = c.args.self.now in
+    let k = chosen m (path_of p) in
+    c.joined_only.ensures m op base env i p s inside body (subst (λ r. IsAfter k u base r s (IsOnly k u base c.args.entry.now s)) c.in-End.is after)
+
+pub joined_ways-returns-in-Way : goal.joined_ways-returns-in-Way
+joined_ways-returns-in-Way t c = λ m op base env i p s inside body after.
+    let u = c.args.self.now in
+    let k = chosen m (path_of p) in
+    c.joined_ways.ensures m op base env i p s inside body (after_all k u base c.in-Way.before.now s _ _ (λ way.
+    only_of_two k u base s c.in-Way.like.now c.args.entry.now c.in-Way.level c.in-Way.marks.now.some way.0 way.1 way.2 way.3)
+    (subst (λ r. IsAfter k u base r s (IsOnly k u base c.args.entry.now s)) c.in-Way.is after))
 
 pub each_quantifier-returns-in-Drawn : goal.each_quantifier-returns-in-Drawn
 each_quantifier-returns-in-Drawn t c = λ m base env i p inside h.

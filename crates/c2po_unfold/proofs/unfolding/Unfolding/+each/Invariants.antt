@@ -88,14 +88,14 @@ decreases-counted_shared l = 30 * l.at.depth + 7
 abbrev pub decreases-joined_only : goal.decreases-joined_only
 decreases-joined_only l = 30 * l.at.depth + 3
 
-abbrev pub decreases-joined_twofold : goal.decreases-joined_twofold
-decreases-joined_twofold l = 30 * l.at.depth + 4
+abbrev pub decreases-joined_ways : goal.decreases-joined_ways
+decreases-joined_ways l = 30 * l.at.depth + 4
 
 abbrev pub decreases-joined_along : goal.decreases-joined_along
 decreases-joined_along l = 30 * l.at.depth + 5
 
-abbrev pub decreases-joined_split : goal.decreases-joined_split
-decreases-joined_split l = 30 * l.at.depth + 5
+abbrev pub decreases-joined_groups : goal.decreases-joined_groups
+decreases-joined_groups l = 30 * l.at.depth + 5
 
 abbrev pub decreases-joined_apart : goal.decreases-joined_apart
 decreases-joined_apart l = 30 * l.at.depth + 6
