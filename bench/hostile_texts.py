@@ -570,6 +570,8 @@ TEXTS = [
            numbered(over(many_chains(6, 10), '@')), 'FTSPEC p;\n'),
     filled('asked-threes', 'the same over two of 13 sets, 25 over each, which hold three such sets', SIGNALS + 'DEFINE\n',
            numbered(over(many_chains(2, 25, ways=3, twos=11), '@')), 'FTSPEC p;\n'),
+    filled('asked-many', 'the same over one of 11 sets, eight over it, which holds 32 such sets', SIGNALS + 'DEFINE\n',
+           numbered(over(many_chains(1, 8, ways=32, twos=10), '@')), 'FTSPEC p;\n'),
     filled('parted-fields', 'quantifiers over fields of written structs in parts of other such structs, around 50 over a formula',
            PARTED, numbered(parted(7, 50)), 'FTSPEC p;\n'),
     filled('passed-booleans', '90 quantifiers over a field that is a set of one formula, within one over pairs of 181 structs',

@@ -216,6 +216,17 @@ known_formula m f o fault past future a b c h =
     rw (a, b ∙ says_past m f o h, c ∙ says_future m f o h)
     (truth_says m (fault_in (fact_view f)) (formula_fault (formula_in o)) (has_past (formula_in o)) (has_future (formula_in o)) (says_fault m f o h))
 
+-- what is known of a formula is known of it where a formula is expected
+pub known_as_is : (m : Mode) (fault : Option NoRange) (past future : Bool) (o : Option Tree) →
+    Fitting m (Some (truth fault past future)) (option_map tree_fact o) → Fitting m (Some (truth fault past future)) (Some (tree_fact (formula (formula_in o))))
+known_as_is m fault past future (Some (formula p)) h = h
+known_as_is exact fault past future (Some (number a)) h = absurd (cc)
+known_as_is exact fault past future None h = absurd (cc)
+known_as_is covering None past future (Some (number a)) h = absurd (cc)
+known_as_is covering None past future None h = absurd (cc)
+known_as_is covering (Some why) past future (Some (number a)) h = absurd (cc (h.1))
+known_as_is covering (Some why) past future None h = absurd (cc (h.1))
+
 negative_fits : (m : Mode) (b : Bool) (s : Ranged) (a : Term) → IntegerFits m b s (range a) → IntegerFits m b (over negated s) (over negated (range a))
 negative_fits exact b s a h = (h.0, ap (over negated) h.1)
 negative_fits covering b s a h = negated_spans b s a h

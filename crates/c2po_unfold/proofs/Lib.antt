@@ -13,6 +13,7 @@ pub mod Loops
 pub mod Meaning
 pub mod Members
 pub mod Names
+pub mod Onefold
 pub mod Parts
 pub mod Pathwise
 pub mod Picking

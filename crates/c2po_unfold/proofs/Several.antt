@@ -91,6 +91,10 @@ OfCompared a b m i v = (op : CompareOp) × (w : Value) × (x : Value) × KnownFo
 abbrev pub OfFirst : Each → Mode → ℕ → Value → Type 0
 OfFirst body m i v = (op : LogicOp) × (w : Value) × KnownFor m body i w × (v ≡ connected_all op (w ∷ []))
 
+-- what is known of a value is known of it as the only body, too
+abbrev pub IsOfFormula : Summary → Type 0
+IsOfFormula s = (m : Mode) (op : LogicOp) (v : Value) → IsSummary m s v → IsSummary m s (connected_all op (v ∷ []))
+
 -- joined bodies with one more, which is known from a case on
 abbrev pub OfNext : LogicOp → Each → Each → ℕ → Mode → ℕ → Value → Type 0
 OfNext op joined next from m i v = (w : Value) × (x : Value) × KnownFor m joined i w × KnownFor m next (i + from) x × (v ≡ binary_value (Logic op) w x)
@@ -106,6 +110,15 @@ OfCounted counting bodies m i v = (vs : List Value) × (counting.members ≡ len
 -- what is known of bodies together in a case is so of them
 pub gathered_here : (m : Mode) (each : Each) (i : ℕ) (vs : List Value) (s : Summary) → GatheredFor m each i vs → known_at each i ≡ Some s → IsGathered m s vs
 gathered_here m each i vs s h at = subst (λ r. IsGathered m r vs) (same_Some h.0 s (sym h.1 ∙ at)) h.2
+
+-- what is known of a value is what was found
+pub known_found : (m : Mode) (o : Option Each) (found : Each) (i : ℕ) (v : Value) → IfSome o (λ (r : Each). KnownFor m r i v) → o ≡ Some found → KnownFor m found i v
+known_found m o found i v h is = subst (λ q. IfSome q (λ (r : Each). KnownFor m r i v)) is h
+
+-- so it is where that holds of what is known in each case
+pub formula_here : (m : Mode) (op : LogicOp) (each : Each) (i : ℕ) (v : Value) → ((s : Summary) → known_at each i ≡ Some s → IsOfFormula s) → KnownFor m each i v →
+    KnownFor m each i (connected_all op (v ∷ []))
+formula_here m op each i v all h = (h.0, h.1, all h.0 h.1 m op v h.2)
 
 -- a stored value that stands for none
 abbrev pub no_stored : Stored

@@ -6,10 +6,9 @@ use Rattle.std.proofs.lemmas.List.{length-append}
 use Rattle.std.proofs.Math.Nat.{mul-le-mul_left, mul-suc}
 use Rattle.std.proofs.lemmas.Option.{same_Some, slice_get-get_or, slice_get_within}
 use Rattle.c2po_nodes.proofs.Places.{at_push, get_last, get_left}
-use Rattle.c2po_unfold.specs.declared.along.Trail.{Trail}
 use Rattle.c2po_unfold.specs.declared.path.Path.{Path}
 use Rattle.c2po_unfold.specs.declared.path.Turn.{Turn}
-use Rattle.c2po_unfold.specs.declared.each.Each.{Each}
+use Rattle.c2po_unfold.specs.declared.drawn.Told.{Told}
 use Rattle.c2po_unfold.specs.declared.known.Ahead.{Ahead}
 use Rattle.c2po_unfold.specs.declared.resolved.Quantified.{Quantified}
 use Rattle.c2po_unfold.specs.declared.resolved.Resolved.{Resolved, Truth}
@@ -20,10 +19,9 @@ use Rattle.c2po_unfold.specs.declared.scope.Choice.{Choice}
 use Rattle.c2po_unfold.specs.declared.scope.Draw.{Draw}
 use Rattle.c2po_unfold.specs.declared.scope.Scope.{Scope}
 use Rattle.c2po_unfold.specs.declared.unfolding.Unfolding.{Unfolding}
-use Rattle.c2po_unfold.specs.Cases.{IsAmong, IsDrawn, IsMarked, IsMember, IsReached, IsSplit, IsVaried, chosen, path_of}
+use Rattle.c2po_unfold.specs.Cases.{AreMarked, IsAmong, IsDrawn, IsMarked, IsMember, IsReached, IsSplit, IsVaried, chosen, path_of}
 use Rattle.c2po_unfold.specs.Covering.{Mode}
 use Rattle.c2po_unfold.specs.Environment.{Env}
-use Rattle.c2po_unfold.specs.Along.{Reaches}
 use Rattle.c2po_unfold.specs.Ahead.{AreLight, AreListed, AreStored, HasMember, HoldsFor, IsAheadIn, IsTold, IsTurnAhead, KnownFor}
 use Rattle.c2po_unfold.specs.Heads.{HeadsIn}
 use Rattle.c2po_unfold.specs.Holding.{Holds}
@@ -60,10 +58,9 @@ turns_more start n l old new t h longer next = record {
         let place : k ≡ l = last.0 ∙ h.count in
         subst (λ (q : Turn). q.member ≡ start + k / n) last.1 (subst (λ i. t.member ≡ start + i / n) (sym place) next)
 
--- the value that an expression, or its part, has in a case
-abbrev pub OfCase : Unfolding → Scope → List Path → Resolved → Trail → Mode → ℕ → Value → Type 0
-OfCase u scope paths e trail m i v =
-    (base : Env) × (p : Path) × (slice_get paths i ≡ Some p) × Reaches (chosen m (path_of p)) u base scope e trail v
+-- what is told of a case by its path in two lists is so of a value
+abbrev pub OfTold : List Path → (like others : Told) → Mode → ℕ → Value → Type 0
+OfTold paths like others m i v = (p : Path) × (slice_get paths i ≡ Some p) × IsTold m like p v × IsTold m others p v
 
 -- what holds of an expression in a case holds of it where the path has a number more
 pub meets_further : (m : Mode) (old new : List ℕ) (level number : ℕ) (u : Unfolding) (base : Env) (scope : Scope) (env : Env) (e : Resolved) →
@@ -73,25 +70,29 @@ meets_further m old new level number u base scope env e reached h = record {
   resolved = h.resolved;
 }
 
--- each of the first paths is such
-pub record AreSoFar (paths : List Path) (i : ℕ) (Is : Path → Type 0) : Type 0 where
-  pub each : (j : ℕ) (p : Path) → j < i → slice_get paths j ≡ Some p → Is p
+-- each of the first of these is such
+pub record AreSoFar {A : Type 0} (all : List A) (i : ℕ) (Is : A → Type 0) : Type 0 where
+  pub each : (j : ℕ) (x : A) → j < i → slice_get all j ≡ Some x → Is x
 
-pub so_far_none : (paths : List Path) (Is : Path → Type 0) → AreSoFar paths 0 Is
-so_far_none paths Is = record { each = λ j p inside. absurd (omega (arith, inside)) }
+pub so_far_none : {A : Type 0} (all : List A) (Is : A → Type 0) → AreSoFar all 0 Is
+so_far_none all Is = record { each = λ j x inside. absurd (omega (arith, inside)) }
 
 -- one more, where those before are such too
-pub so_far_more : (paths : List Path) (i : ℕ) (own : Path) (Was Is : Path → Type 0) → AreSoFar paths i Was → ((p : Path) → Was p → Is p) →
-    slice_get paths i ≡ Some own → Is own → AreSoFar paths (i + 1) Is
-so_far_more paths i own Was Is h further at here = record { each = λ j p inside there. by j p there (or_last j i inside) }
+pub so_far_more : {A : Type 0} (all : List A) (i : ℕ) (own : A) (Was Is : A → Type 0) → AreSoFar all i Was → ((x : A) → Was x → Is x) →
+    slice_get all i ≡ Some own → Is own → AreSoFar all (i + 1) Is
+so_far_more {A = A} all i own Was Is h further at here = record { each = λ j x inside there. by j x there (or_last j i inside) }
   where
-    by : (j : ℕ) (p : Path) → slice_get paths j ≡ Some p → (j < i) ⊎ (j ≡ i) → Is p
-    by j p there (inl inside) = further p (h.each j p inside there)
-    by j p there (inr last) = subst Is (same_Some own p (sym at ∙ subst (λ k. slice_get paths k ≡ Some p) last there)) here
+    by : (j : ℕ) (x : A) → slice_get all j ≡ Some x → (j < i) ⊎ (j ≡ i) → Is x
+    by j x there (inl inside) = further x (h.each j x inside there)
+    by j x there (inr last) = subst Is (same_Some own x (sym at ∙ subst (λ k. slice_get all k ≡ Some x) last there)) here
 
 -- what a case chooses is this stored value
 abbrev pub Choose : Choice → Stored → Path → Type 0
 Choose choice s p = (m : Mode) (u : Unfolding) (v : Value) → IsVaried (chosen m (path_of p)) u choice v → Holds u s v
+
+-- a case has a number at a level, below a count
+abbrev pub ChooseWithin : (level count : ℕ) → Path → Type 0
+ChooseWithin level count p = (k : ℕ) × (slice_get (path_of p) level ≡ Some k) × (k < count)
 
 -- whether the number of a case at a level is marked is this
 abbrev pub Mark : (level : ℕ) (marks : List Bool) (b : Bool) → Path → Type 0
@@ -157,13 +158,20 @@ draw_more paths draw member i own h at here = record { each = λ m j p s v insid
         let same : p ≡ own = same_Some p own (sym (subst (λ k. slice_get paths k ≡ Some p) last there) ∙ at) in
         here m s v (subst (λ (r : Path). IsDrawn (chosen m (path_of r)) draw s v) same drawn)
 
--- what is known for a path is so in the case that has it
-pub told_here : (m : Mode) (u : Unfolding) (scope : Scope) (e : Resolved) (trail : Trail) (paths told : List Path) (each : Each) (i k : ℕ) (own : Path)
-    (v : Value) → IsTold u scope e trail told each → OfCase u scope paths e trail m i v → slice_get paths i ≡ Some own → slice_get told k ≡ Some own →
-    KnownFor m each k v
-told_here m u scope e trail paths told each i k own v h of here at =
-    let same : own ≡ of.1 = same_Some own of.1 (sym here ∙ of.2) in
-    h.holds m of.0 k of.1 v (subst (λ (p : Path). slice_get told k ≡ Some p) same at) of.3
+-- what is told of the case with a number is told of its path
+pub told_here : (m : Mode) (told : Told) (paths : List Path) (i : ℕ) (p own : Path) (v : Value) → slice_get paths i ≡ Some p →
+    slice_get paths i ≡ Some own → IsTold m told p v → IsTold m told own v
+told_here m told paths i p own v at here h = subst (λ (q : Path). IsTold m told q v) (same_Some p own (sym at ∙ here)) h
+
+-- paths are marked alike, and one more
+pub marked_more : (level : ℕ) (marks : List Bool) (b : Bool) (own : Path) (old new : List Path) → AreMarked level marks b old → new ≡ old ++ own ∷ [] →
+    Mark level marks b own → AreMarked level marks b new
+marked_more level marks b own old new h longer mark = λ m k p at. by m k p (at_push old own k p (subst (λ xs. slice_get xs k ≡ Some p) longer at))
+  where
+    by : (m : Mode) (k : ℕ) (p : Path) → ((k < length old) × (slice_get old k ≡ Some p)) ⊎ ((k ≡ length old) × (own ≡ p)) →
+        IsMarked (chosen m (path_of p)) level marks b
+    by m k p (inl earlier) = h m k p earlier.1
+    by m k p (inr last) = subst (λ (q : Path). IsMarked (chosen m (path_of q)) level marks b) last.1 (mark m)
 
 -- a number in rounds says that its round is one of them
 within_round : (n i j k : ℕ) → i + n * j < n * k → j < k

@@ -2,6 +2,7 @@
 
 use Rattle.std.specs.Prelude.{ℕ, ◌≡◌, ◌+◌, ◌*◌, ◌<◌, Option, Some, List, length, map, sum_by, slice_get}
 use Rattle.c2po_unfold.specs.declared.along.Trail.{Trail}
+use Rattle.c2po_unfold.specs.declared.drawn.Told.{Told}
 use Rattle.c2po_unfold.specs.declared.each.Each.{Each}
 use Rattle.c2po_unfold.specs.declared.each.Each.TheVariants.{Same, Own}
 use Rattle.c2po_unfold.specs.declared.known.Ahead.{Ahead}
@@ -74,11 +75,9 @@ pub record IsDrawnAhead (u : Unfolding) (scope within : Scope) (q : Quantified) 
 abbrev pub HoldsFor : Unfolding → List Stored → ℕ → Value → Type 0
 HoldsFor u ss i v = (s : Stored) × (slice_get ss i ≡ Some s) × Holds u s v
 
--- what is known of an expression, or of its part, in the cases of these paths is so
-pub record IsTold (u : Unfolding) (scope : Scope) (e : Resolved) (trail : Trail) (paths : List Path) (each : Each) :
-    Type 0 where
-  pub holds : (m : Mode) (base : Env) (i : ℕ) (p : Path) (v : Value) → slice_get paths i ≡ Some p
-      → Reaches (chosen m (path_of p)) u base scope e trail v → KnownFor m each i v
+-- what is told of a case, by its path, is so of a value
+abbrev pub IsTold : Mode → Told → Path → Value → Type 0
+IsTold m told p v = (k : ℕ) → slice_get told.paths.now k ≡ Some p → KnownFor m told.each.now k v
 
 -- a value is that of the member with a number
 abbrev pub HasMember : Mode → Unfolding → List Member → ℕ → Value → Type 0

@@ -66,6 +66,11 @@ abbrev pub IsSplit : Mode → Path → (level : ℕ) → (marks : List Bool) →
 IsSplit m p level marks like others = (b : Bool) × IsMarked (chosen m (path_of p)) level marks b
     × (b ≡ true → IsAmong p like) × (b ≡ false → IsAmong p others)
 
+-- whether the numbers of these paths at a level are marked is this
+abbrev pub AreMarked : (level : ℕ) → (marks : List Bool) → Bool → List Path → Type 0
+AreMarked level marks b paths =
+    (m : Mode) (k : ℕ) (p : Path) → slice_get paths k ≡ Some p → IsMarked (chosen m (path_of p)) level marks b
+
 -- a member is a value: the one that a stored member represents, of which this is known where that is said
 abbrev pub IsMember : Mode → Unfolding → Member → Value → Type 0
 IsMember m u (member.Held s i) v = Holds u s v

@@ -17,6 +17,7 @@ pub mod Bodies
 pub mod Ahead
 pub mod Along
 pub mod Lanes
+pub mod Single
 pub mod Fields
 pub use Rattle.count_sets.specs.Counting
 pub use Rattle.mltl_base.specs.Tables

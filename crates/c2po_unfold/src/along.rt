@@ -3,11 +3,11 @@
 //! A variable that is a member of a set that is written out, as a struct's value or a set, has no list of what is known of it.
 //! So an expression over it is followed to what it leads to, together in all cases that draw the same member.
 
-ghost use Rattle.std.specs.Prelude.{◌≡◌, ℕ, Some, IfOk, slice_get};
+ghost use Rattle.std.specs.Prelude.{◌≡◌, ℕ, Bool, true, false, Some, IfOk, slice_get};
 ghost use Rattle.c2po_unfold.specs.declared.path.Path.{Path as CasePath};
 ghost use Rattle.c2po_unfold.specs.Ahead.{KnownFor};
 ghost use Rattle.c2po_unfold.specs.Along.{IsAlong, Reaches};
-ghost use Rattle.c2po_unfold.specs.Cases.{Case, IsVaried, chosen, path_of};
+ghost use Rattle.c2po_unfold.specs.Cases.{Case, IsMarked, IsVaried, chosen, path_of};
 ghost use Rattle.c2po_unfold.specs.Covering.{Mode};
 ghost use Rattle.c2po_unfold.specs.Environment.{Env, fields_in};
 ghost use Rattle.c2po_unfold.specs.Holding.{Holds};
@@ -18,12 +18,13 @@ ghost use Rattle.c2po_unfold.specs.declared.unfolding.Unfolding.{Unfolding as Ta
 ghost use Rattle.c2po_unfold.specs.Values.{Value, built, grouped, members, picked};
 
 use crate::Unfolding;
+use crate::drawn::Told;
 use crate::each::{Each, Stop};
 use crate::fault::deeper;
 use crate::path::Cases;
 use crate::resolved::{Hint, Resolved};
 use crate::room::Room;
-use crate::scope::{Choice, Draw, Scope, Site};
+use crate::scope::{Choice, Marks, Scope, Site};
 use crate::summary::Summary;
 use crate::values::Stored;
 use mltl_base::Name;
@@ -241,15 +242,50 @@ impl Unfolding {
             } => match marks.agreed(*level, cases.paths) {
                 Some(true) => self.each_entry(at, cases, e, like, trail, room),
                 Some(false) => self.each_entry(at, cases, e, others, trail, room),
-                None => {
-                    let draw = Draw::Marked {
-                        marks,
-                        level: *level,
-                    };
-                    self.each_parted(at, cases, e, trail, draw, room)
-                }
+                None => self.each_marked(at, cases, e, marks, *level, like, others, trail, room),
             },
         }
+    }
+
+    /// What is known in each case of a part of a variable, which is the first of these where the number of a case at a level is
+    /// marked, and the second one where it isn't.
+    #[cycle(each)]
+    fn each_marked(
+        &self,
+        at: Site<'_>,
+        cases: Cases<'_>,
+        e: &Resolved,
+        marks: &Marks,
+        level: usize,
+        like: &Scope<'_>,
+        others: &Scope<'_>,
+        trail: &Trail<'_>,
+        room: Room,
+    ) -> Result<Each, Stop>
+        ensures { (m : Mode) (base env : Env) (i : ℕ) (p : CasePath) (b : Bool) (v : Value)
+            → slice_get cases.entry.paths.now i ≡ Some p
+            → MeetsIn (chosen m (path_of p)) self.now base at.entry.scope.now env e.now
+            → IsMarked (chosen m (path_of p)) level marks.now.some b
+            → (b ≡ true → IsEntry (chosen m (path_of p)) self.now base like.now
+            (resolved_value e.now env))
+            → (b ≡ false → IsEntry (chosen m (path_of p)) self.now base others.now
+            (resolved_value e.now env))
+            → IsAlong (chosen m (path_of p)) self.now base trail.now (resolved_value e.now env) v
+            → IfOk result (λ r. KnownFor m r i v) }
+    {
+        let parted = cases.split(self.alloc, level, marks)?;
+        let (marked, rest) = (parted.like.as_slice(), parted.others.as_slice());
+        let first = self.each_entry(at, cases.along(marked), e, like, trail, room)?;
+        let second = self.each_entry(at, cases.along(rest), e, others, trail, room)?;
+        let like = Told {
+            paths: marked,
+            each: &first,
+        };
+        let others = Told {
+            paths: rest,
+            each: &second,
+        };
+        self.merged(cases, like, others)
     }
 
     /// What is known in each case of a part of a variable, of which this is listed.

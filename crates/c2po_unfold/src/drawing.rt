@@ -22,7 +22,7 @@ use crate::each::Stop;
 use crate::fault::deeper;
 use crate::path::{Cases, Path};
 use crate::resolved::{Hint, Resolved, Row};
-use crate::scope::{Choice, Draw, Head, Led, Marks, Scope, Site};
+use crate::scope::{Choice, Draw, Drawn, Head, Led, Marks, Scope, Site};
 use crate::values::Stored;
 use mltl_base::Name;
 
@@ -153,21 +153,42 @@ impl<'a> Draw<'a> {
         Some(member)
     }
 
-    /// Whether two cases draw the same.
-    pub(crate) fn joins(self, path: &Path, other: &Path) -> bool {
+    /// What a case draws, to compare it with what others do.
+    #[inline(always)]
+    pub(crate) fn drawn(self, path: &Path) -> Drawn {
         match self {
-            Draw::First => true,
-            Draw::Turned { turns, level } => {
-                let (Some(i), Some(j)) = (path.at(level), other.at(level)) else {
-                    return false;
-                };
-                match (turns.get(i), turns.get(j)) {
-                    (Some(own), Some(other)) => own.member == other.member,
-                    _ => i == j,
-                }
-            }
-            Draw::Chosen(choice) => choice.is_same(path, other),
-            Draw::Marked { marks, level } => marks.of(level, path) == marks.of(level, other),
+            Draw::First => Drawn::First,
+            Draw::Turned { turns, level } => match path.at(level) {
+                Some(number) => match turns.get(number) {
+                    Some(turn) => Drawn::Member(turn.member),
+                    None => Drawn::Number(number),
+                },
+                None => Drawn::Nothing,
+            },
+            Draw::Chosen(choice) => match (choice.stored(path), path.at(choice.level)) {
+                (Some(stored), _) => Drawn::Stored(stored),
+                (None, Some(number)) => Drawn::Number(number),
+                (None, None) => Drawn::Nothing,
+            },
+            Draw::Marked { marks, level } => match marks.of(level, path) {
+                Some(marked) => Drawn::Marked(marked),
+                None => Drawn::Nothing,
+            },
+        }
+    }
+}
+
+impl Drawn {
+    /// Whether this is the same.
+    #[inline(always)]
+    pub(crate) fn is(self, other: Drawn) -> bool {
+        match (self, other) {
+            (Drawn::Nothing, Drawn::Nothing) | (Drawn::First, Drawn::First) => true,
+            (Drawn::Member(own), Drawn::Member(other)) => own == other,
+            (Drawn::Stored(own), Drawn::Stored(other)) => own.is(other),
+            (Drawn::Number(own), Drawn::Number(other)) => own == other,
+            (Drawn::Marked(own), Drawn::Marked(other)) => own == other,
+            _ => false,
         }
     }
 }
@@ -254,14 +275,6 @@ impl<'a> Choice<'a> {
         match self.stored(path) {
             Some(own) => own.is(stored),
             None => false,
-        }
-    }
-
-    /// Whether two cases choose the same stored value.
-    fn is_same(self, path: &Path, other: &Path) -> bool {
-        match (self.stored(path), self.stored(other)) {
-            (Some(own), Some(other)) => own.is(other),
-            _ => path.at(self.level) == other.at(self.level),
         }
     }
 
@@ -375,7 +388,8 @@ impl Unfolding {
             → MeetsIn (chosen m (path_of p)) self.now base part.entry.scope.now env whole.entry.now
             → IsPlace base (names_of part.entry.scope.now) part.entry.field.now part.entry.hint.now
             → resolved_value e.entry.now env
-            ≡ picked (λ y. fields_in (env y)) part.entry.field.now (resolved_value whole.entry.now env)
+            ≡ picked (λ y. fields_in (env y)) part.entry.field.now
+            (resolved_value whole.entry.now env)
             → IfOk result (λ r. IsShared (chosen m (path_of p)) self.now base r
             (resolved_value e.entry.now env)) }
     {

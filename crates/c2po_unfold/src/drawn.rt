@@ -51,17 +51,16 @@ fn turns(alloc: Global, start: usize, members: usize, count: usize) -> Result<Ve
 /// What is known of an expression in the cases of these paths.
 #[derive(Clone, Copy)]
 pub(crate) struct Told<'a> {
-    paths: &'a [Path],
-    each: &'a Each,
+    pub paths: &'a [Path],
+    pub each: &'a Each,
 }
 
 impl<'a> Told<'a> {
     /// What is known in the case with a number, if it has this path.
     #[inline(always)]
     fn at(self, i: usize, path: &Path) -> Option<&'a Summary>
-        ensures { (m : Mode) (v : Value)
-            → ((k : ℕ) → slice_get self.entry.paths.now k ≡ Some path.now
-            → KnownFor m self.entry.each.now k v) → IfSome result (λ s. IsSummary m s.now v) }
+        ensures { (m : Mode) (v : Value) → IsTold m self.entry path.now v
+            → IfSome result (λ s. IsSummary m s.now v) }
     {
         if self.paths.get(i)?.is(path) {
             self.each.get(i)
@@ -131,7 +130,7 @@ impl Unfolding {
             paths: others,
             each: &rest,
         };
-        self.merged(at.scope, cases, e, trail, like, others)
+        self.merged(cases, like, others)
     }
 
     /// What is known in each case of a part of an expression's value, by so many first cases, and by all others.
@@ -157,24 +156,16 @@ impl Unfolding {
         Each::followed(self.alloc, &some, first.len(), &rest, others.len())
     }
 
-    /// What is known of a part of an expression's value in each case by what is known of it in those of two lists of paths, in which
-    /// the cases follow one another.
-    fn merged(
+    /// What is known in each case by what is known in those of two lists of paths, in which the cases follow one another.
+    pub(crate) fn merged(
         &self,
-        scope: &Scope<'_>,
         cases: Cases<'_>,
-        e: &Resolved,
-        trail: &Trail<'_>,
         like: Told<'_>,
         others: Told<'_>,
     ) -> Result<Each, Stop>
-        requires like { IsTold self.now scope.now e.now trail.now like.paths.now like.each.now }
-        requires others { IsTold self.now scope.now e.now trail.now
-            others.paths.now others.each.now }
-        ensures { (m : Mode) (base : Env) (i : ℕ) (p : CasePath) (v : Value)
-            → slice_get cases.entry.paths.now i ≡ Some p
-            → Reaches (chosen m (path_of p)) self.now base scope.now e.now trail.now v
-            → IfOk result (λ r. KnownFor m r i v) }
+        ensures { (m : Mode) (i : ℕ) (p : CasePath) (v : Value)
+            → slice_get cases.entry.paths.now i ≡ Some p → IsTold m like.entry p v
+            → IsTold m others.entry p v → IfOk result (λ r. KnownFor m r i v) }
     {
         let mut all = Vec::with_capacity(self.alloc, cases.len())?;
         let (mut i, mut j) = (0_usize, 0_usize);

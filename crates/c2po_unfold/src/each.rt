@@ -4,7 +4,7 @@
 //! member for the variable, and for those of quantifiers within the body. Operators go over many cases in one loop, and
 //! what doesn't depend on such a variable is looked at once.
 
-ghost use Rattle.std.specs.Prelude.{◌≡◌, ◌+◌, ◌*◌, ◌<◌, ◌/◌, ◌%◌, ◌≤◌, ℕ, ◌++◌, ◌∷◌, [], List as Seq, Some, IfOk, IfErr, IfSome, OnOk, length, slice_get};
+ghost use Rattle.std.specs.Prelude.{◌≡◌, ◌+◌, ◌*◌, ◌<◌, ◌/◌, ◌%◌, ◌≤◌, ℕ, ◌++◌, ◌∷◌, [], true, List as Seq, Some, IfOk, IfErr, IfSome, OnOk, length, slice_get};
 ghost use Rattle.mltl_base.specs.declared.operators.CompareOp.{CompareOp};
 ghost use Rattle.mltl_base.specs.declared.operators.LogicOp.{LogicOp as Connective};
 ghost use Rattle.c2po_unfold.specs.declared.fault.UnfoldFault.TheVariants.{Memory};
@@ -101,6 +101,20 @@ fn the_same(all: &[Summary]) -> Option<Summary>
         }
     }
     Some(*first)
+}
+
+/// Whether all of these are known of formulas.
+fn are_formulas(all: &[Summary]) -> bool
+    ensures { (m : Mode) (op : Connective) (i : ℕ) (k : Found) (v : Value) → result ≡ true
+        → slice_get all.now i ≡ Some k → IsSummary m k v
+        → IsSummary m k (connected_all op (v ∷ [])) }
+{
+    for summary in all {
+        if !summary.is_formula() {
+            return false;
+        }
+    }
+    true
 }
 
 impl Each {
@@ -311,6 +325,23 @@ impl Each {
             add(&mut all, body.as_formula())?;
         }
         Ok(Each::Own(all))
+    }
+
+    /// The same without a copy, where all are formulas already.
+    pub(crate) fn as_formulas(self, alloc: Global, count: usize) -> Result<Each, Stop>
+        ensures { (m : Mode) (op : Connective) (i : ℕ) (v : Value) → i < count
+            → KnownFor m self i v
+            → IfOk result (λ r. KnownFor m r i (connected_all op (v ∷ []))) }
+    {
+        let same = match &self {
+            Each::Same(_) => false,
+            Each::Own(all) => are_formulas(all.as_slice()),
+        };
+        if same {
+            Ok(self)
+        } else {
+            Each::formulas(alloc, &self, count)
+        }
     }
 
     /// What is known of joined bodies with one more, in each of `count` cases. What is known of that one begins with the

@@ -99,7 +99,8 @@ impl<'a> Scope<'a> {
     #[inline(always)]
     pub(crate) fn variable(&'a self, name: &Name) -> Led<'a>
         ensures { (c : Case) (u : Unfolding) (base env : Env) → FitsIn c u base self.now env
-            → IsBound (names_of self.now) name.now → IsLed c u base result (value_in (env name.now)) }
+            → IsBound (names_of self.now) name.now
+            → IsLed c u base result (value_in (env name.now)) }
     {
         match self.entry(name) {
             Scope::Top => Led::Nowhere,

@@ -104,7 +104,8 @@ impl Lanes {
     #[inline(always)]
     fn push(&mut self, turn: Turn, member: Member, path: Path) -> Result<(), Stop>
         ensures turns { OnOk result (self.new.turns.items ≡ self.old.turns.items ++ turn ∷ []) }
-        ensures members { OnOk result (self.new.members.items ≡ self.old.members.items ++ member ∷ []) }
+        ensures members { OnOk result
+            (self.new.members.items ≡ self.old.members.items ++ member ∷ []) }
         ensures paths { OnOk result (self.new.paths.items ≡ self.old.paths.items ++ path ∷ []) }
     {
         self.push_turn(turn, path)?;
@@ -227,7 +228,8 @@ impl Unfolding {
     ) -> Result<Each, Stop>
         ensures { (m : Mode) (base env : Env) (i : ℕ) (p : CasePath)
             → slice_get cases.entry.paths.now i ≡ Some p
-            → MeetsIn (chosen m (path_of p)) self.now base at.entry.scope.now env bodies.entry.set.now
+            → MeetsIn (chosen m (path_of p)) self.now base at.entry.scope.now env
+            bodies.entry.set.now
             → MeetsBodyIn (chosen m (path_of p)) self.now base at.entry.scope.now env bodies.entry
             → IfOk result (λ r. KnownFor m r i (connected_all op (bodies_of bodies.entry env))) }
     {
@@ -263,7 +265,7 @@ impl Unfolding {
     {
         let members = self.firsts(sets)?;
         let each = self.each_body(at, cases, bodies, members.as_slice(), level, room)?;
-        Each::formulas(self.alloc, &each, cases.len())
+        each.as_formulas(self.alloc, cases.len())
     }
 
     /// The same, whatever the sizes of the sets.
@@ -455,7 +457,8 @@ impl Unfolding {
     /// The first members of these sets.
     fn firsts(&self, sets: &[Stored]) -> Result<Vec<Member>, Stop>
         ensures { (m : Mode) (i : ℕ) (s v : Value) → HoldsFor self.now sets.now i s
-            → slice_get (members s) 0 ≡ Some v → IfOk result (λ r. HasMember m self.now r.items i v) }
+            → slice_get (members s) 0 ≡ Some v
+            → IfOk result (λ r. HasMember m self.now r.items i v) }
     {
         let mut all = Vec::with_capacity(self.alloc, sets.len())?;
         for set in sets {

@@ -28,6 +28,7 @@ pub mod resolved;
 pub mod room;
 pub mod samples;
 pub mod scope;
+mod single;
 pub mod storing;
 pub mod summary;
 pub mod summing;

@@ -132,12 +132,13 @@ impl Unfolding {
     ) -> Result<Each, Stop>
         ensures { (m : Mode) (op : Connective) (base env : Env) (i : ℕ) (p : CasePath)
             → slice_get cases.entry.paths.now i ≡ Some p
-            → MeetsIn (chosen m (path_of p)) self.now base at.entry.scope.now env bodies.entry.set.now
+            → MeetsIn (chosen m (path_of p)) self.now base at.entry.scope.now env
+            bodies.entry.set.now
             → MeetsBodyIn (chosen m (path_of p)) self.now base at.entry.scope.now env bodies.entry
             → length (members (resolved_value bodies.entry.set.now env)) ≡ 1
             → IfOk result (λ r. KnownFor m r i (connected_all op (bodies_of bodies.entry env))) }
     {
         let each = self.drawn_body(at, cases, bodies, at.scope, bodies.set, Draw::First, room)?;
-        Each::formulas(self.alloc, &each, cases.len())
+        each.as_formulas(self.alloc, cases.len())
     }
 }

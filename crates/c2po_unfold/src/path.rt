@@ -1,7 +1,7 @@
 //! The numbers by which a case chooses members.
 
-ghost use Rattle.std.specs.Prelude.{true, ◌≡◌, ◌+◌, ◌*◌, ◌%◌, ◌<◌, ℕ, Some, IfOk, IfSome, length, slice_get};
-ghost use Rattle.c2po_unfold.specs.Cases.{HasBegun, HasReached, HasStarted, IsParted, IsReached, IsSplit, path_of};
+ghost use Rattle.std.specs.Prelude.{true, false, ◌≡◌, ◌+◌, ◌*◌, ◌%◌, ◌<◌, ℕ, Some, IfOk, IfSome, length, slice_get};
+ghost use Rattle.c2po_unfold.specs.Cases.{AreMarked, HasBegun, HasReached, HasStarted, IsParted, IsReached, IsSplit, path_of};
 ghost use Rattle.c2po_unfold.specs.Covering.{Mode};
 ghost use Rattle.c2po_unfold.specs.declared.path.Path.{Path as CasePath};
 
@@ -201,12 +201,26 @@ impl<'a> Cases<'a> {
         true
     }
 
+    /// Whether each has a number at a level, below this count.
+    pub(crate) fn choose_within(self, level: usize, count: usize) -> bool
+        ensures { (i : ℕ) (p : CasePath) → result ≡ true → slice_get self.entry.paths.now i ≡ Some p
+            → (k : ℕ) × (slice_get (path_of p) level ≡ Some k) × (k < count) }
+    {
+        for path in self.paths {
+            match path.at(level) {
+                Some(number) if number < count => {}
+                _ => return false,
+            }
+        }
+        true
+    }
+
     /// How many cases draw what the first one does, where they are those that come first, and others follow.
     pub(crate) fn led(self, draw: Draw<'_>) -> Option<usize> {
-        let first = self.paths.get(0)?;
+        let first = draw.drawn(self.paths.get(0)?);
         let mut count = 0_usize;
         for i in 0..self.len() {
-            if draw.joins(first, self.paths.get(i)?) {
+            if draw.drawn(self.paths.get(i)?).is(first) {
                 if count < i {
                     return None;
                 }
@@ -237,11 +251,11 @@ impl<'a> Cases<'a> {
         ensures { (i : ℕ) (p : CasePath) → slice_get self.entry.paths.now i ≡ Some p
             → IfOk result (λ r. IsParted p r.like.items r.others.items) }
     {
-        let first = self.paths.get(0).ok_or(Stop::Alone)?;
+        let first = draw.drawn(self.paths.get(0).ok_or(Stop::Alone)?);
         let mut like = Vec::with_capacity(alloc, self.len())?;
         let mut others = Vec::with_capacity(alloc, self.len())?;
         for path in self.paths {
-            if draw.joins(first, path) {
+            if draw.drawn(path).is(first) {
                 add(&mut like, *path)?;
             } else {
                 add(&mut others, *path)?;
@@ -256,8 +270,9 @@ impl<'a> Cases<'a> {
         let Some(first) = self.paths.get(0) else {
             return Marks { some };
         };
+        let first = draw.drawn(first);
         for path in self.paths {
-            if draw.joins(first, path) {
+            if draw.drawn(path).is(first) {
                 let number = path.at(draw.level()).unwrap_or(0);
                 if number < TOGETHER {
                     some[number] = true;
@@ -269,8 +284,10 @@ impl<'a> Cases<'a> {
 
     /// The paths of those cases whose number at a level is marked, and of all others.
     pub(crate) fn split(self, alloc: Global, level: usize, marks: &Marks) -> Result<Parted, Stop>
-        ensures { (m : Mode) (i : ℕ) (p : CasePath) → slice_get self.entry.paths.now i ≡ Some p
+        ensures all { (m : Mode) (i : ℕ) (p : CasePath) → slice_get self.entry.paths.now i ≡ Some p
             → IfOk result (λ r. IsSplit m p level marks.now.some r.like.items r.others.items) }
+        ensures like { IfOk result (λ r. AreMarked level marks.now.some true r.like.items) }
+        ensures others { IfOk result (λ r. AreMarked level marks.now.some false r.others.items) }
     {
         let mut like = Vec::with_capacity(alloc, self.len())?;
         let mut others = Vec::with_capacity(alloc, self.len())?;

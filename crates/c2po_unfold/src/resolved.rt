@@ -115,7 +115,8 @@ impl Resolved {
         ensures { (c : Case) (u : Unfolding) (base : Env) (scope : Scope) (env : Env) (v : Value)
             → MeetsIn c u base scope env self.now
             → slice_get (members (resolved_value self.now env)) i ≡ Some v
-            → IfSome result (λ e. MeetsIn c u base scope env e.now × (v ≡ resolved_value e.now env)) }
+            → IfSome result (λ e. MeetsIn c u base scope env e.now
+            × (v ≡ resolved_value e.now env)) }
     {
         match self {
             Resolved::Group(members) => members.as_slice().get(i),

@@ -87,6 +87,22 @@ pub enum Draw<'a> {
     Marked { marks: &'a Marks, level: usize },
 }
 
+/// What a case draws, as far as it is compared with what others do.
+#[derive(Clone, Copy)]
+pub(crate) enum Drawn {
+    Nothing,
+    /// The first member of a set.
+    First,
+    /// The member of a set with this number.
+    Member(usize),
+    /// This stored value.
+    Stored(Stored),
+    /// What the case's number at the level stands for.
+    Number(usize),
+    /// What is for marked numbers, or for others.
+    Marked(bool),
+}
+
 /// What differs from case to case: one of these members, or any value where that isn't listed.
 #[derive(Clone, Copy)]
 pub struct Choice<'a> {
@@ -127,6 +143,26 @@ impl Member {
             Member::Known(_) => None,
         }
     }
+
+    /// What a column has for it, if it is stored.
+    #[inline(always)]
+    pub(crate) fn found<'a>(&self, rows: &'a [Row]) -> Option<&'a Stored>
+        ensures { (m : Mode) (u : Unfolding) (w v : Value) → IsMember m u self.now w
+            → RowsLead u rows.now w v → IfSome result (λ s. Holds u s.now v) }
+    {
+        let (stored, index) = match self {
+            Member::Held { stored, index } | Member::Leaf { stored, index, .. } => {
+                (*stored, *index)
+            }
+            Member::Known(_) => return None,
+        };
+        let row = rows.get(index)?;
+        if row.member.is(stored) {
+            Some(&row.found)
+        } else {
+            None
+        }
+    }
 }
 
 impl<'a> Choice<'a> {
@@ -163,18 +199,8 @@ impl<'a> Choice<'a> {
             → IsVaried (chosen m (path_of path.now)) u self.entry w → RowsLead u rows.now w v
             → IfSome result (λ s. Holds u s.now v) }
     {
-        let (stored, index) = match self.member(path)? {
-            Member::Held { stored, index } | Member::Leaf { stored, index, .. } => {
-                (*stored, *index)
-            }
-            Member::Known(_) => return None,
-        };
-        let row = rows.get(index)?;
-        if row.member.is(stored) {
-            Some(&row.found)
-        } else {
-            None
-        }
+        let member = self.member(path)?;
+        member.found(rows)
     }
 }
 

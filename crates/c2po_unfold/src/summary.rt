@@ -66,6 +66,18 @@ impl Summary {
         }
     }
 
+    /// Whether this is known of a formula: it is known of a quantifier with that body alone, too.
+    #[inline(always)]
+    pub(crate) fn is_formula(&self) -> bool
+        ensures { (m : Mode) (op : LogicOp) (v : Value) → result ≡ true → IsSummary m self.now v
+            → IsSummary m self.now (connected_all op (v ∷ [])) }
+    {
+        match self.fact {
+            Fact::Formula(..) => true,
+            _ => false,
+        }
+    }
+
     /// Returns what is known of the bodies of a counting quantifier together with one more.
     #[inline(always)]
     pub(crate) fn with(&self, next: &Summary) -> Summary

@@ -345,7 +345,8 @@ impl Unfolding {
             → IfOk result (λ r. room ≡ r.left + sum_by weight (bodies_of bodies.entry env)) }
         ensures heavy { (m : Mode) (base env : Env)
             → MeetsAll m self.now base at.entry.scope.now env bodies.entry
-            → IfErr result (λ why. why ≡ Heavy → room < sum_by weight (bodies_of bodies.entry env)) }
+            → IfErr result
+            (λ why. why ≡ Heavy → room < sum_by weight (bodies_of bodies.entry env)) }
     {
         let set = self.head(at.depth, at.scope, bodies.set)?;
         let count = self.member_count(&set);

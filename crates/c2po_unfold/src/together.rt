@@ -242,6 +242,10 @@ impl Unfolding {
                     set,
                     body,
                 };
+                let stored = self.joined_stored(at, cases, *op, bodies, room)?;
+                if let Some(found) = stored {
+                    return Ok(found);
+                }
                 let sets = self.sets_in(at, cases, bodies.set)?;
                 if let SetsIn::Drawn(here, draw) = &sets {
                     return self.joined_drawn(at, cases, e, *here, *draw, *op, bodies, room);
@@ -403,7 +407,8 @@ impl Unfolding {
     ) -> Result<Each, Stop>
         ensures { (m : Mode) (base env : Env) (i : ℕ) (p : CasePath)
             → slice_get cases.entry.paths.now i ≡ Some p
-            → MeetsIn (chosen m (path_of p)) self.now base at.entry.scope.now env bodies.entry.set.now
+            → MeetsIn (chosen m (path_of p)) self.now base at.entry.scope.now env
+            bodies.entry.set.now
             → MeetsBodyIn (chosen m (path_of p)) self.now base at.entry.scope.now env bodies.entry
             → AreSets (chosen m (path_of p)) self.now base sets.now i
             (resolved_value bodies.entry.set.now env)
@@ -433,7 +438,8 @@ impl Unfolding {
         ensures { (m : Mode) (base env : Env) (i : ℕ) (p : CasePath)
             → slice_get cases.entry.paths.now i ≡ Some p
             → MeetsIn (chosen m (path_of p)) self.now base at.entry.scope.now env e.now
-            → MeetsIn (chosen m (path_of p)) self.now base at.entry.scope.now env bodies.entry.set.now
+            → MeetsIn (chosen m (path_of p)) self.now base at.entry.scope.now env
+            bodies.entry.set.now
             → MeetsBodyIn (chosen m (path_of p)) self.now base at.entry.scope.now env bodies.entry
             → IsHere (chosen m (path_of p)) self.now base here.entry
             (resolved_value bodies.entry.set.now env)
@@ -456,7 +462,7 @@ impl Unfolding {
 
     /// The same over a set that is the same in all cases.
     #[cycle(each)]
-    fn joined_shared(
+    pub(crate) fn joined_shared(
         &self,
         at: Site<'_>,
         cases: Cases<'_>,
@@ -503,7 +509,8 @@ impl Unfolding {
     ) -> Result<Each, Stop>
         ensures { (m : Mode) (base env : Env) (i : ℕ) (p : CasePath)
             → slice_get cases.entry.paths.now i ≡ Some p
-            → MeetsIn (chosen m (path_of p)) self.now base at.entry.scope.now env bodies.entry.set.now
+            → MeetsIn (chosen m (path_of p)) self.now base at.entry.scope.now env
+            bodies.entry.set.now
             → MeetsBodyIn (chosen m (path_of p)) self.now base at.entry.scope.now env bodies.entry
             → AreSets (chosen m (path_of p)) self.now base sets.now i
             (resolved_value bodies.entry.set.now env)
@@ -567,7 +574,8 @@ impl Unfolding {
         ensures { (m : Mode) (base env : Env) (i : ℕ) (p : CasePath) (s : Value)
             → slice_get cases.entry.paths.now i ≡ Some p
             → MeetsBodyIn (chosen m (path_of p)) self.now base at.entry.scope.now env bodies.entry
-            → HeadsIn (chosen m (path_of p)) self.now base set.now s → members ≡ length (members_of s)
+            → HeadsIn (chosen m (path_of p)) self.now base set.now s
+            → members ≡ length (members_of s)
             → IfOk result (λ r. GatheredFor m r i (resolved_bodies bodies.entry env s)) }
     {
         let n = cases.len();
@@ -666,7 +674,8 @@ impl Unfolding {
         room: Room,
     ) -> Result<Ahead, Stop>
         ensures ahead { IfOk result
-            (IsAheadIn self.now at.entry.scope.now bodies.entry (HeldSet set) cases.entry.paths.now) }
+            (IsAheadIn self.now at.entry.scope.now bodies.entry (HeldSet set)
+            cases.entry.paths.now) }
         ensures start { IfOk result (λ r. r.start ≡ i) }
         ensures some { IfOk result (λ r. 0 < r.count) }
     {

@@ -187,7 +187,8 @@ impl Unfolding {
         ensures { (m : Mode) (base env : Env) (i : ℕ) (p : CasePath)
             → slice_get cases.entry.paths.now i ≡ Some p
             → MeetsIn (chosen m (path_of p)) self.now base at.entry.scope.now env set.now
-            → IfOk result (λ r. slice_get r.items i ≡ Some (length (members (resolved_value set.now env)))) }
+            → IfOk result (λ r. slice_get r.items i
+            ≡ Some (length (members (resolved_value set.now env)))) }
     {
         let mut counts = Vec::with_capacity(self.alloc, cases.len())?;
         for path in cases.paths {

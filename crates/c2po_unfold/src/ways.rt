@@ -334,6 +334,6 @@ impl Unfolding {
             .renamed(&*bodies.name, &*at.scope)
             .ok_or(Stop::Alone)?;
         let each = self.each(Site { scope, ..at }, cases, bodies.body, room)?;
-        Each::formulas(self.alloc, &each, cases.len())
+        each.as_formulas(self.alloc, cases.len())
     }
 }

@@ -1,4 +1,4 @@
-use Rattle.std.proofs.Common.{inl, inr, position, rules, FitsSigned, w64, ℕ, ◌≡◌, ◌+◌, ◌-◌, ◌*◌, ◌<◌, ◌≤◌, List, Bor, Vec, Global, Some, IfOk, IfSome, refl, sym, subst, ap, ◌∙◌, length, get_or, slice_get, take, false, arith, [], map, ◌∷◌}
+use Rattle.std.proofs.Common.{inl, inr, position, rules, FitsSigned, w64, ℕ, ◌≡◌, ◌+◌, ◌-◌, ◌*◌, ◌<◌, ◌≤◌, List, Bor, Vec, Global, Some, IfOk, IfSome, refl, sym, subst, ap, ◌∙◌, length, get_or, slice_get, take, true, false, arith, [], map, ◌∷◌}
 use Rattle.std.proofs.lemmas.Bool.{eqb-true}
 use Rattle.std.proofs.lemmas.Int.{to_z-of_z}
 use Rattle.mltl_base.specs.declared.operators.LogicOp.TheVariants.{And}
@@ -23,12 +23,13 @@ use Rattle.c2po_unfold.proofs.Loops.{bodies_by, bodies_count, body_at, joined_on
 use Rattle.std.proofs.lemmas.List.{take_all}
 use Rattle.c2po_unfold.proofs.Joining.{gathered_next, gathered_start, joined_all, joined_more, joined_start}
 use Rattle.c2po_unfold.proofs.Leading.{found_holds, known_holds}
+use Rattle.c2po_unfold.proofs.Onefold.{chosen_here}
 use Rattle.c2po_unfold.proofs.Parts.{member_held, member_open, picked_open}
 use Rattle.c2po_unfold.proofs.Pathwise.{column_meets, column_same, field_same, whole_meets}
 use Rattle.c2po_unfold.proofs.Rows.{are_resolved-Build, are_resolved-Group, resolved_of-Build, resolved_of-Group}
 use Rattle.c2po_unfold.specs.Lanes.{IsHeldSet, IsSetIn}
 use Rattle.c2po_unfold.specs.declared.path.Turn.{Turn}
-use Rattle.c2po_unfold.proofs.Several.{are_listed_more, either_at, lent_at, no_stored, known_more}
+use Rattle.c2po_unfold.proofs.Several.{are_listed_more, either_at, known_found, lent_at, no_stored, known_more}
 use Rattle.c2po_unfold.proofs.Members.{found_at, resolved_at}
 use Rattle.c2po_unfold.specs.declared.resolved.Resolved.{Resolved}
 use Rattle.c2po_unfold.specs.declared.scope.Member.{Member}
@@ -471,9 +472,9 @@ joined_singles-returns t c = λ m op base env i p s there meets holds.
     let has = subst (λ ms. HasMember m u ms i v) (sym c.as_slice.ensures.value) (c.in_ok-members.ensures m i s v holds at) in
     let known = c.in_ok-each.ensures m base env i p v there (c.requires.numbered i p there) meets has in
     let one : take 1 bodies ≡ bodies = all_bodies c.args.bodies env s 1 (sym size) in
-    subst (λ x. IfOk c.formulas.result (λ r. KnownFor m r i x))
+    subst (λ x. IfOk c.as_formulas.result (λ r. KnownFor m r i x))
     (joined_one op bodies w (body_at c.args.bodies env s v 0 at) ∙ ap (connected_all op) one)
-    (c.formulas.ensures m op i w (subst (λ n. i < n) (sym c.len.ensures) (slice_get_within c.args.cases.paths.now i p there)) known)
+    (c.as_formulas.ensures m op i w (subst (λ n. i < n) (sym c.len.ensures) (slice_get_within c.args.cases.paths.now i p there)) known)
 
 pub joined_sets-returns-then-are_numbered : goal.joined_sets-returns-then-are_numbered
 joined_sets-returns-then-are_numbered t c = λ m base env i p s there meets holds.
@@ -676,15 +677,11 @@ each_drawn-returns t c = λ m base env i p v w inside set at along. c.each_along
 pub each_led-returns-in-Err-Alone : goal.each_led-returns-in-Err-Alone
 each_led-returns-in-Err-Alone t c = λ m base env i p inside h. c.each_along.ensures m base i p (resolved_value c.args.e.now env) inside (env, h, refl)
 
-pub each_parted-merged-requires-clause-like : goal.each_parted-merged-requires-clause-like
-each_parted-merged-requires-clause-like t c = record {
-  holds = λ m base i p v at h. c.in_ok-some.ensures m base i p v (subst (λ ps. slice_get ps i ≡ Some p) (sym c.along.ensures) at) h;
-}
-
-pub each_parted-merged-requires-clause-others : goal.each_parted-merged-requires-clause-others
-each_parted-merged-requires-clause-others t c = record {
-  holds = λ m base i p v at h. c.in_ok-rest.ensures m base i p v (subst (λ ps. slice_get ps i ≡ Some p) (sym c.along-2.ensures) at) h;
-}
+pub each_parted-returns : goal.each_parted-returns
+each_parted-returns t c = λ m base i p v inside h.
+    c.merged.ensures m i p v inside
+    (λ k at. c.in_ok-some.ensures m base k p v (subst (λ ps. slice_get ps k ≡ Some p) (sym c.along.ensures) at) h)
+    (λ k at. c.in_ok-rest.ensures m base k p v (subst (λ ps. slice_get ps k ≡ Some p) (sym c.along-2.ensures) at) h)
 
 pub each_split-returns : goal.each_split-returns
 each_split-returns t c = λ m base i p v inside h.
@@ -778,8 +775,8 @@ joined_only-returns t c = λ m op base env i p s inside body only.
       resolved = subst (λ xs. IsResolved u base xs q.body.now)
           (sym (subst (λ o. IfSome o (λ (r : Scope). names_of r ≡ q.name.now ∷ names_of c.args.at.scope.now)) c.in_ok-scope.ensures.ok_part c.renamed.ensures.names)) body.resolved;
     }) in
-    subst (λ vs. IfOk c.formulas.result (λ r. KnownFor m r i (connected_all op vs))) (ap (map (λ v. resolved_body q env v)) (sym only.1))
-    (c.formulas.ensures m op i w (subst (λ n. i < n) (sym c.len.ensures) (slice_get_within c.args.cases.paths.now i p inside)) known)
+    subst (λ vs. IfOk c.as_formulas.result (λ r. KnownFor m r i (connected_all op vs))) (ap (map (λ v. resolved_body q env v)) (sym only.1))
+    (c.as_formulas.ensures m op i w (subst (λ n. i < n) (sym c.len.ensures) (slice_get_within c.args.cases.paths.now i p inside)) known)
 
 pub joined_lone-returns : goal.joined_lone-returns
 joined_lone-returns t c = λ m op base env i p inside set body size.
@@ -790,9 +787,9 @@ joined_lone-returns t c = λ m op base env i p inside set body size.
     let w = resolved_body c.args.bodies env v in
     let known = c.in_ok-each.ensures m base env env i p v inside body set at in
     let one : take 1 bodies ≡ bodies = all_bodies c.args.bodies env s 1 (sym size) in
-    subst (λ x. IfOk c.formulas.result (λ r. KnownFor m r i x))
+    subst (λ x. IfOk c.as_formulas.result (λ r. KnownFor m r i x))
     (joined_one op bodies w (body_at c.args.bodies env s v 0 at) ∙ ap (connected_all op) one)
-    (c.formulas.ensures m op i w (subst (λ n. i < n) (sym c.len.ensures) (slice_get_within c.args.cases.paths.now i p inside)) known)
+    (c.as_formulas.ensures m op i w (subst (λ n. i < n) (sym c.len.ensures) (slice_get_within c.args.cases.paths.now i p inside)) known)
 
 pub joined_drawn-returns-then-branch : goal.joined_drawn-returns-then-branch
 joined_drawn-returns-then-branch t c = λ m base env i p inside h set body here same.
@@ -817,7 +814,22 @@ joined_drawn-returns-in-Some t c = λ m base env i p inside h set body here same
 
 pub each_entry-returns-in-None-agreed : goal.each_entry-returns-in-None-agreed
 each_entry-returns-in-None-agreed t c = λ m base env i p v inside h entry along.
-    c.each_parted-in-None-agreed.ensures m base i p v inside (env, h, along)
+    let k = chosen m (path_of p) in
+    let g = subst (λ s. IsEntry k c.args.self.now base s (resolved_value c.args.e.now env)) c.in-Parted.is entry in
+    c.each_marked.ensures m base env i p g.0 v inside h g.1 g.2 g.3 along
+
+pub each_marked-returns : goal.each_marked-returns
+each_marked-returns t c = λ m base env i p b v inside h marked like others along.
+    let level = c.args.level in
+    let marks = c.args.marks.now.some in
+    let k = chosen m (path_of p) in
+    c.merged.ensures m i p v inside
+    (λ j at.
+    let is = marked_once k level marks b true marked (c.in_ok-parted.ensures.like m j p (subst (λ ps. slice_get ps j ≡ Some p) c.as_slice-marked.ensures.value at)) in
+    c.in_ok-first.ensures m base env j p v (subst (λ ps. slice_get ps j ≡ Some p) (sym c.along.ensures) at) h (like is) along)
+    (λ j at.
+    let is = marked_once k level marks b false marked (c.in_ok-parted.ensures.others m j p (subst (λ ps. slice_get ps j ≡ Some p) c.as_slice-rest.ensures.value at)) in
+    c.in_ok-second.ensures m base env j p v (subst (λ ps. slice_get ps j ≡ Some p) (sym c.along-2.ensures) at) h (others is) along)
 
 pub joined_apart-returns-in-Some-along : goal.joined_apart-returns-in-Some-along
 joined_apart-returns-in-Some-along t c = λ m op base env i p s inside body here.
@@ -835,7 +847,7 @@ joined_groups-returns-then-is_empty t c = λ m op base env i p s inside body her
     let u = c.args.self.now in
     let k = chosen m (path_of p) in
     c.in_ok-joined_ways.ensures m op base env i p s inside body (after_all k u base c.args.ways.now s _ _ (λ among.
-    let split = c.in_ok-parted.ensures m among.0 p (subst (λ ps. slice_get ps among.0 ≡ Some p) (sym c.along-2.ensures) among.1) in
+    let split = c.in_ok-parted.ensures.all m among.0 p (subst (λ ps. slice_get ps among.0 ≡ Some p) (sym c.along-2.ensures) among.1) in
     only_of_last k u base s c.in-Some.like (IsAmong p c.as_slice-others.result.now) split.0
     (λ is.
     let like = split.2 is in
@@ -850,7 +862,7 @@ joined_groups-returns t c = λ m op base env i p s inside body here after.
     let u = c.args.self.now in
     let k = chosen m (path_of p) in
     c.joined_groups.ensures m op base env i p s inside body here (after_all k u base c.args.ways.now s _ _ (λ among.
-    let split = c.in_ok-parted.ensures m among.0 p (subst (λ ps. slice_get ps among.0 ≡ Some p) (sym c.along-2.ensures) among.1) in (
+    let split = c.in_ok-parted.ensures.all m among.0 p (subst (λ ps. slice_get ps among.0 ≡ Some p) (sym c.along-2.ensures) among.1) in (
       split.0,
       split.1,
       λ is.
@@ -935,3 +947,54 @@ each_quantifier-returns-after-sets-4 t c = λ m base env i p inside h.
     ∙ sym (ap (λ r. resolved_value r env) c.in-Counted.is))
     (c.each_counted.ensures m base env i p inside set (body_meets k u base scope env _ _ c.deref-in-Counted-2.ensures h.fits parts.1)
     (c.in_ok-sets-in-Counted.ensures m base env i p inside set))
+
+pub each_quantifier-returns-in-Some : goal.each_quantifier-returns-in-Some
+each_quantifier-returns-in-Some t c = λ m base env i p inside h.
+    let u = c.args.self.now in
+    let scope = c.args.at.scope.now in
+    let k = chosen m (path_of p) in
+    let parts = subst (IsResolved u base (names_of scope)) c.in-Joined.is h.resolved in
+    let set = part_meets k u base scope env c.args.e.now _ h (subst (IsResolved u base (names_of scope)) (sym c.deref.ensures) parts.0) in
+    subst (KnownFor m c.in-Some.found i)
+    (ap (connected_all c.in-Joined.op) (bodies_by c.in-Joined.name env _ _ _ _ c.deref.ensures c.deref-in-Joined.ensures) ∙ sym (ap (λ r. resolved_value r env) c.in-Joined.is))
+    (known_found m _ c.in-Some.found i _
+    (c.in_ok-stored-in-Joined.ensures m base env i p inside set (body_meets k u base scope env _ _ c.deref-in-Joined.ensures h.fits parts.1)) c.in-Some.is)
+
+pub joined_stored-returns-in_ok-joined_shared-in-Held : goal.joined_stored-returns-in_ok-joined_shared-in-Held
+joined_stored-returns-in_ok-joined_shared-in-Held t c = λ m base env i p inside set body.
+    let u = c.args.self.now in
+    let k = chosen m (path_of p) in
+    let s = resolved_value c.args.bodies.set.now env in
+    let own = c.in-Some.ensures k u base env set in
+    c.in_ok-joined_shared-in-Held.ensures m base env i p s inside body
+    (c.in-Some-looked_up.ensures m k base own.0 s (subst (λ l. IsLed k u base l own.0) c.in-Held.is own.1) own.2)
+
+pub joined_stored-returns-in-Varied : goal.joined_stored-returns-in-Varied
+joined_stored-returns-in-Varied t c = λ m base env i p inside set body.
+    let u = c.args.self.now in
+    let k = chosen m (path_of p) in
+    let own = c.in-Some.ensures k u base env set in
+    c.joined_single.ensures m c.args.op base env i p own.0 inside set body (subst (λ l. IsLed k u base l own.0) c.in-Varied.is own.1) own.2
+
+pub joined_single-returns-then-not-is_used : goal.joined_single-returns-then-not-is_used
+joined_single-returns-then-not-is_used t c = λ m op base env i p w inside set body varied lead.
+    let u = c.args.self.now in
+    let k = chosen m (path_of p) in
+    let s = resolved_value c.args.bodies.set.now env in
+    let own = chosen_here m (path_of p) u c.args.choice w varied (c.choose_within.ensures i p c.if-not-choose_within.false inside) in
+    c.in_ok-joined_lone.ensures m op base env i p inside set body (c.have_one.ensures m k base own.0 own.1 w s c.if-not-have_one.false own.3 own.4 lead)
+
+pub joined_single-returns : goal.joined_single-returns
+joined_single-returns t c = λ m op base env i p w inside set body varied lead.
+    let q = c.args.bodies in
+    let u = c.args.self.now in
+    let k = chosen m (path_of p) in
+    let s = resolved_value q.set.now env in
+    let own = chosen_here m (path_of p) u c.args.choice w varied (c.choose_within.ensures i p c.if-not-choose_within.false inside) in
+    let only = subst (λ o. IfSome o (λ (r : Vec Member Global). (v : Value) × (members s ≡ v ∷ []) × HasMember m u r.items own.0 v)) c.in-Some.is
+    (c.in_ok-members.ensures m k base own.0 own.1 w s own.3 own.4 lead) in
+    let has = subst (λ ms. HasMember m u ms own.0 only.0) (sym c.as_slice.ensures.value) only.2 in
+    let known = c.in_ok-each.ensures m base env i p only.0 inside body
+    (varied_here m (path_of p) c.as_slice.result.now c.args.choice.level own.0 u has.0 only.0 own.2 has.1 has.2) in
+    subst (λ vs. KnownFor m c.in_ok-as_formulas.field-0 i (connected_all op vs)) (ap (map (λ v. resolved_body q env v)) (sym only.1))
+    (c.in_ok-as_formulas.ensures m op i (resolved_body q env only.0) (subst (λ n. i < n) (sym c.len.ensures) (slice_get_within c.args.cases.paths.now i p inside)) known)

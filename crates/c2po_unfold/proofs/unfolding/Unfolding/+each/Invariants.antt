@@ -103,6 +103,12 @@ decreases-joined_apart l = 30 * l.at.depth + 6
 abbrev pub decreases-joined_lone : goal.decreases-joined_lone
 decreases-joined_lone l = 30 * l.at.depth + 3
 
+abbrev pub decreases-joined_single : goal.decreases-joined_single
+decreases-joined_single l = 30 * l.at.depth + 4
+
+abbrev pub decreases-joined_stored : goal.decreases-joined_stored
+decreases-joined_stored l = 30 * l.at.depth + 7
+
 abbrev pub decreases-joined_same : goal.decreases-joined_same
 decreases-joined_same l = 30 * l.at.depth + 4
 
@@ -129,6 +135,9 @@ decreases-each_part l = 30 * l.at.depth + 4
 
 abbrev pub decreases-each_entry : goal.decreases-each_entry
 decreases-each_entry l = 30 * l.at.depth + 6
+
+abbrev pub decreases-each_marked : goal.decreases-each_marked
+decreases-each_marked l = 30 * l.at.depth + 7
 
 abbrev pub decreases-each_parted : goal.decreases-each_parted
 decreases-each_parted l = 30 * l.at.depth + 4

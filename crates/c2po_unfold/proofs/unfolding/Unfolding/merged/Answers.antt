@@ -3,30 +3,27 @@ use Rattle.std.proofs.lemmas.Option.{slice_get-get_or, slice_get_within}
 use Rattle.c2po_unfold.specs.declared.summary.Summary.{Summary}
 use Rattle.c2po_unfold.specs.Summaries.{IsSummary}
 use Rattle.c2po_unfold.proofs.Several.{KnownSoFar, known_more}
-use Rattle.c2po_unfold.proofs.Turnwise.{OfCase, told_here}
+use Rattle.c2po_unfold.proofs.Turnwise.{OfTold, told_here}
 use Rattle.c2po_unfold.proofs.unfolding.Unfolding.merged.Goals as goal
 use Rattle.c2po_unfold.proofs.unfolding.Unfolding.merged.Goals.{in-Some+in_ok-add, in_default+in_ok-found+in_ok-add-2}
 
 pub loop-path-preserved : goal.loop-path-preserved
 loop-path-preserved c =
-    let u = c.args.self.now in
-    let scope = c.args.scope.now in
-    let e = c.args.e.now in
-    let trail = c.args.trail.now in
     let paths = c.args.cases.paths.now in
+    let Of = OfTold paths c.args.like c.args.others in
     let i = c.loop-path.path-index in
     let here = slice_get-get_or paths i _ c.loop-path-test.true in
-    let Is : Vec Summary Global → Type 0 = λ all. KnownSoFar (OfCase u scope paths e trail) (i + 1) all.items in
+    let Is : Vec Summary Global → Type 0 = λ all. KnownSoFar Of (i + 1) all.items in
     elim c.match-at.branch [
       | in-Some+in_ok-add w ↦ subst Is (sym w.all-is)
-          (known_more (OfCase u scope paths e trail) i c.loop-path.all.items w.add.new.all.items _ c.loop-path.invariant w.in_ok-add.ensures
-          (λ m v h. w.in-Some.ensures m v (λ k at. told_here m u scope e trail paths c.args.like.paths.now c.args.like.each.now i k _ v c.requires.like h here at)))
+          (known_more Of i c.loop-path.all.items w.add.new.all.items _ c.loop-path.invariant w.in_ok-add.ensures
+          (λ m v h. w.in-Some.ensures m v (told_here m c.args.like paths i h.0 _ v h.1 here h.2)))
       | in_default+in_ok-found+in_ok-add-2 w ↦ subst Is (sym w.all-is)
-          (known_more (OfCase u scope paths e trail) i c.loop-path.all.items w.add-in_default.new.all.items _ c.loop-path.invariant w.in_ok-add-2.ensures
+          (known_more Of i c.loop-path.all.items w.add-in_default.new.all.items _ c.loop-path.invariant w.in_ok-add-2.ensures
           (λ m v h. subst (λ o. IfSome o (λ (s : Bor Summary). IsSummary m s.now v)) w.in_ok-found.ensures.ok_part
-          (w.at-in_default.ensures m v (λ k at. told_here m u scope e trail paths c.args.others.paths.now c.args.others.each.now i k _ v c.requires.others h here at))))
+          (w.at-in_default.ensures m v (told_here m c.args.others paths i h.0 _ v h.1 here h.3))))
     ]
 
 pub returns : goal.returns
-returns c = λ m base i p v at h.
-    c.loop-path.invariant.known m i v (omega (arith, c.loop-path-test.false, slice_get_within c.args.cases.paths.now i p at)) (base, p, at, h)
+returns c = λ m i p v at like others.
+    c.loop-path.invariant.known m i v (omega (arith, c.loop-path-test.false, slice_get_within c.args.cases.paths.now i p at)) (p, at, like, others)
