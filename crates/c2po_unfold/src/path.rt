@@ -89,7 +89,12 @@ impl Path {
     pub(crate) fn is(&self, other: &Path) -> bool
         ensures { result ≡ true → self.now ≡ other.now }
     {
-        self.numbers == other.numbers && self.count == other.count
+        for i in 0..LEVELS {
+            if self.numbers[i] != other.numbers[i] {
+                return false;
+            }
+        }
+        self.count == other.count
     }
 
     /// The path with this number at a level: this one if it has it there, else with one number more; `None` where there is no
