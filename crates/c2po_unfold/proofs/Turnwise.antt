@@ -22,7 +22,7 @@ use Rattle.c2po_unfold.specs.declared.unfolding.Unfolding.{Unfolding}
 use Rattle.c2po_unfold.specs.Cases.{AreMarked, IsAmong, IsDrawn, IsMarked, IsMember, IsReached, IsSplit, IsVaried, chosen, path_of}
 use Rattle.c2po_unfold.specs.Covering.{Mode}
 use Rattle.c2po_unfold.specs.Environment.{Env}
-use Rattle.c2po_unfold.specs.Ahead.{AreLight, AreListed, AreStored, HasMember, HoldsFor, IsAheadIn, IsTold, IsTurnAhead, KnownFor}
+use Rattle.c2po_unfold.specs.Ahead.{AreLight, AreListed, AreStored, HasMember, HoldsFor, IsAheadIn, IsTold, IsTurnAhead}
 use Rattle.c2po_unfold.specs.Heads.{HeadsIn}
 use Rattle.c2po_unfold.specs.Holding.{Holds}
 use Rattle.c2po_unfold.specs.declared.values.Stored.{Stored}

@@ -1,7 +1,6 @@
 -- What is known of an expression for several values of a variable at once.
 
 use Rattle.std.specs.Prelude.{ℕ, ◌≡◌, ◌+◌, ◌*◌, ◌<◌, Option, Some, List, length, map, sum_by, slice_get}
-use Rattle.c2po_unfold.specs.declared.along.Trail.{Trail}
 use Rattle.c2po_unfold.specs.declared.drawn.Told.{Told}
 use Rattle.c2po_unfold.specs.declared.each.Each.{Each}
 use Rattle.c2po_unfold.specs.declared.each.Each.TheVariants.{Same, Own}
@@ -18,7 +17,6 @@ use Rattle.c2po_unfold.specs.declared.scope.Scope.{Scope}
 use Rattle.c2po_unfold.specs.declared.summary.Summary.{Summary}
 use Rattle.c2po_unfold.specs.declared.unfolding.Unfolding.{Unfolding}
 use Rattle.c2po_unfold.specs.declared.values.Stored.{Stored}
-use Rattle.c2po_unfold.specs.Along.{Reaches}
 use Rattle.c2po_unfold.specs.Bodies.{AreOfBody, IsOfBody, MeetsBody, MeetsBodyIn}
 use Rattle.c2po_unfold.specs.Cases.{IsMember, chosen, path_of}
 use Rattle.c2po_unfold.specs.Covering.{Mode, Says}

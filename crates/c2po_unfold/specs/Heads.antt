@@ -21,7 +21,8 @@ use Rattle.c2po_unfold.specs.declared.unfolding.Unfolding.{Unfolding}
 use Rattle.c2po_unfold.specs.Values.{Value, leaf, structure, set, built, grouped, members, picked}
 use Rattle.c2po_unfold.specs.Environment.{Env, bind, fields_in, value_in}
 use Rattle.c2po_unfold.specs.Holding.{Holds, HoldAll}
-use Rattle.c2po_unfold.specs.Resolving.{AllResolved, IsBound, IsPlace, IsResolved, is_operation, resolved_value, resolved_values}
+use Rattle.c2po_unfold.specs.Resolving.{AllResolved, IsBound, IsPlace, IsResolved}
+use Rattle.c2po_unfold.specs.Resolving.{is_operation, resolved_value, resolved_values}
 use Rattle.c2po_unfold.specs.declared.scope.Scope.{Scope}
 use Rattle.c2po_unfold.specs.Scopes.{FitsIn, IsEntry, MeetsIn, names_of}
 use Rattle.c2po_unfold.specs.Cases.{Case, only, mode_in, IsMarked, IsVaried}
@@ -124,7 +125,8 @@ abbrev pub IsShared : Case → Unfolding → Env → Shared → Value → Type 0
 IsShared c u base (shared.Head h) v = HeadsIn c u base h v
 IsShared c u base (shared.Apart here draw) v = IsHere c u base here v
 
--- a set has the only member that a group says in the cases that are marked for it; in the others this is said of the rest
+-- a set has the only member that a group says in the cases that are marked for it, and in the others what is said of the
+-- rest
 abbrev pub IsAfter : Case → Unfolding → Env → Ways → (set : Value) → (rest : Type 0) → Type 0
 IsAfter c u base End s T = T
 IsAfter c u base (Way' marks level like _ before) s T = IsAfter c u base before s ((b : Bool)

@@ -8,6 +8,7 @@
 
 mod along;
 mod bodies;
+mod counted;
 pub mod counting;
 mod drawing;
 mod drawn;

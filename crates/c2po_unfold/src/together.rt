@@ -23,7 +23,6 @@ ghost use Rattle.c2po_unfold.specs.declared.resolved.Resolved.{Resolved as Expre
 ghost use Rattle.c2po_unfold.specs.declared.unfolding.Unfolding.{Unfolding as Meanings};
 
 use crate::along::Trail;
-use crate::counting::Counting;
 use crate::drawing::{Here, SetsIn, Shared};
 use crate::each::{Each, Stop, add};
 use crate::fact::Fact;
@@ -495,106 +494,10 @@ impl Unfolding {
         Ok(all)
     }
 
-    /// What is known in each case of a counting quantifier over these sets.
-    #[cycle(each)]
-    fn each_counted(
-        &self,
-        at: Site<'_>,
-        cases: Cases<'_>,
-        op: CountOp,
-        number: u64,
-        bodies: Quantified<'_>,
-        sets: &SetsIn<'_>,
-        room: Room,
-    ) -> Result<Each, Stop>
-        ensures { (m : Mode) (base env : Env) (i : ℕ) (p : CasePath)
-            → slice_get cases.entry.paths.now i ≡ Some p
-            → MeetsIn (chosen m (path_of p)) self.now base at.entry.scope.now env
-            bodies.entry.set.now
-            → MeetsBodyIn (chosen m (path_of p)) self.now base at.entry.scope.now env bodies.entry
-            → AreSets (chosen m (path_of p)) self.now base sets.now i
-            (resolved_value bodies.entry.set.now env)
-            → IfOk result (λ r. KnownFor m r i (counted op number (bodies_of bodies.entry env))) }
-    {
-        match sets {
-            SetsIn::Same(set) => self.counted_shared(at, cases, op, number, bodies, set, room),
-            SetsIn::Held(sets) => {
-                let sets = Sets::Held(sets.as_slice());
-                self.counted_over(at, cases, op, number, bodies, sets, room)
-            }
-            SetsIn::Drawn(..) | SetsIn::Led => {
-                self.counted_over(at, cases, op, number, bodies, Sets::Led, room)
-            }
-        }
-    }
-
-    /// The same over a set that is the same in all cases.
-    #[cycle(each)]
-    fn counted_shared(
-        &self,
-        at: Site<'_>,
-        cases: Cases<'_>,
-        op: CountOp,
-        number: u64,
-        bodies: Quantified<'_>,
-        set: &Head<'_>,
-        room: Room,
-    ) -> Result<Each, Stop>
-        ensures { (m : Mode) (base env : Env) (i : ℕ) (p : CasePath) (s : Value)
-            → slice_get cases.entry.paths.now i ≡ Some p
-            → MeetsBodyIn (chosen m (path_of p)) self.now base at.entry.scope.now env bodies.entry
-            → HeadsIn (chosen m (path_of p)) self.now base set.now s
-            → IfOk result
-            (λ r. KnownFor m r i (counted op number (resolved_bodies bodies.entry env s))) }
-    {
-        let members = self.shared_count(set).ok_or(Stop::Alone)?;
-        if members == 0 {
-            return Err(Stop::Alone);
-        }
-        let all = self.each_gathered(at, cases, bodies, set, members, room)?;
-        let counting = Counting {
-            op,
-            number,
-            members,
-        };
-        Each::counted(self.alloc, counting, &all, cases.len(), room)
-    }
-
-    /// What is known in each case of the first `members` bodies of a quantifier together.
-    #[cycle(each)]
-    fn each_gathered(
-        &self,
-        at: Site<'_>,
-        cases: Cases<'_>,
-        bodies: Quantified<'_>,
-        set: &Head<'_>,
-        members: usize,
-        room: Room,
-    ) -> Result<Each, Stop>
-        ensures { (m : Mode) (base env : Env) (i : ℕ) (p : CasePath) (s : Value)
-            → slice_get cases.entry.paths.now i ≡ Some p
-            → MeetsBodyIn (chosen m (path_of p)) self.now base at.entry.scope.now env bodies.entry
-            → HeadsIn (chosen m (path_of p)) self.now base set.now s
-            → members ≡ length (members_of s)
-            → IfOk result (λ r. GatheredFor m r i (resolved_bodies bodies.entry env s)) }
-    {
-        let n = cases.len();
-        let mut ahead = Ahead::none();
-        let mut all = Each::Same(Summary::none());
-        for i in 0..members {
-            if i - ahead.start >= ahead.count {
-                ahead = self.bodies_from(at, cases, bodies, set, i, room)?;
-            }
-            let from = n.checked_mul(i - ahead.start).ok_or(Stop::Alone)?;
-            all = Each::gathered(self.alloc, &all, &ahead.each, from, n, room)?;
-        }
-        Ok(all)
-    }
-
     /// What is known in each case of the bodies of a quantifier from member `i` of its set on: of several together where
     /// these are stored and cases are few, else of one.
     #[cycle(each)]
-    fn bodies_from(
+    pub(crate) fn bodies_from(
         &self,
         at: Site<'_>,
         cases: Cases<'_>,

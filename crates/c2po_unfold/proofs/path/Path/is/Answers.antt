@@ -1,4 +1,4 @@
-use Rattle.std.proofs.Common.{◌≡◌, ◌+◌, ◌<◌, ◌∙◌, ◌⊎◌, inl, inr, ℕ, List, ap, arith, get_or, length, nat_eq, true, subst, sym}
+use Rattle.std.proofs.Common.{◌≡◌, ◌<◌, ◌∙◌, ◌⊎◌, inl, inr, ℕ, List, ap, arith, get_or, length, subst, sym}
 use Rattle.std.proofs.lemmas.List.{ext_get_or}
 use Rattle.std.proofs.lemmas.Bool.{eqb-true}
 use Rattle.c2po_unfold.specs.declared.path.Path.{Path as CasePath}
