@@ -7,7 +7,7 @@ ghost use Rattle.std.specs.Prelude.{◌≡◌, ◌+◌, ◌*◌, ◌<◌, ◌/�
 ghost use Rattle.c2po_unfold.specs.declared.fault.UnfoldFault.TheVariants.{Memory};
 ghost use Rattle.c2po_unfold.specs.declared.scope.Head.TheVariants.{Held as HeldSet};
 ghost use Rattle.c2po_unfold.specs.declared.values.Stored.{Stored as Held};
-ghost use Rattle.c2po_unfold.specs.Ahead.{AreLight, AreListed, GatheredFor, HasMember, IsAhead, IsAheadIn, IsTurnAhead, KnownFor, RowsLead};
+ghost use Rattle.c2po_unfold.specs.Ahead.{AreLight, AreListed, HasMember, IsAhead, IsAheadIn, IsTurnAhead, KnownFor, RowsLead};
 ghost use Rattle.c2po_unfold.specs.Bodies.{MeetsBodyIn};
 ghost use Rattle.c2po_unfold.specs.Cases.{Case, IsMember, IsOneOf, IsVaried, chosen, path_of};
 ghost use Rattle.c2po_unfold.specs.Covering.{Mode};
@@ -17,7 +17,7 @@ ghost use Rattle.c2po_unfold.specs.Holding.{Holds};
 ghost use Rattle.c2po_unfold.specs.Resolving.{IsBound, bodies_of, resolved_bodies, resolved_body, resolved_value};
 ghost use Rattle.c2po_unfold.specs.Scopes.{MeetsIn, names_of};
 ghost use Rattle.c2po_unfold.specs.Summaries.{IsSummary};
-ghost use Rattle.c2po_unfold.specs.Values.{Value, connected_all, counted, members as members_of};
+ghost use Rattle.c2po_unfold.specs.Values.{Value, connected_all, members as members_of};
 ghost use Rattle.c2po_unfold.specs.declared.path.Path.{Path as CasePath};
 ghost use Rattle.c2po_unfold.specs.declared.resolved.Resolved.{Resolved as Expression};
 ghost use Rattle.c2po_unfold.specs.declared.unfolding.Unfolding.{Unfolding as Meanings};
