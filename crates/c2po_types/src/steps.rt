@@ -5,7 +5,7 @@ ghost use Rattle.mltl_base.specs.declared.limits.TheConstants.{MAX_WEIGHT};
 ghost use Rattle.mltl_base.specs.Answers.{reason};
 ghost use Rattle.c2po_ast.specs.Shape.{shape};
 ghost use Rattle.c2po_ast.specs.ItemShape.{field_shape, item_shape, type_shape};
-ghost use Rattle.c2po_unfold.specs.Facts.{told_fault};
+ghost use Rattle.c2po_unfold.specs.Facts.{told_fault, with_future, with_past};
 ghost use Rattle.c2po_unfold.specs.Environment.{Env, value_of};
 ghost use Rattle.c2po_unfold.specs.Holding.{StandsFor, Weighs};
 ghost use Rattle.c2po_unfold.specs.Values.{Value};
@@ -44,11 +44,11 @@ fn no_range(line: u32, why: NoRange) -> TypeFault
 
 /// Whether a formula has an operator of the other tense than its engine's.
 fn is_mixed(engine: Engine, tenses: Tenses) -> bool
-    ensures { result ≡ other_tense engine tenses.past tenses.future }
+    ensures { result ≡ other_tense engine (with_past tenses) (with_future tenses) }
 {
     match engine {
-        Engine::Ft => tenses.past,
-        Engine::Pt => tenses.future,
+        Engine::Ft => tenses.has_past(),
+        Engine::Pt => tenses.has_future(),
     }
 }
 

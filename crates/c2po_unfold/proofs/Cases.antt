@@ -127,6 +127,11 @@ marked_once (chosen m path) level marks b d h k =
     let same = same_Some h.0 k.0 (sym h.1 ∙ k.1) in
     same_Some b d (sym h.2 ∙ subst (λ n. slice_get marks n ≡ Some d) (sym same) k.2)
 
+-- what holds in both cases of a Boolean holds
+pub of_either : {P : Type 0} (b : Bool) → (b ≡ true → P) → (b ≡ false → P) → P
+of_either true f g = f refl
+of_either false f g = g refl
+
 -- a set that has one member both where a number is marked and where it isn't has one
 pub only_of_two : (c : Case) (u : Unfolding) (base : Env) (s : Value) (like others : Scope) (level : ℕ) (marks : List Bool) (b : Bool) →
     IsMarked c level marks b → (b ≡ true → IsOnly c u base like s) → (b ≡ false → IsOnly c u base others s) →

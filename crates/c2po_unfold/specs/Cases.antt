@@ -1,6 +1,6 @@
 -- Several values of variables at once: an expression is looked at in several cases.
 
-use Rattle.std.specs.Prelude.{ℕ, ◌≡◌, ◌⊎◌, Bool, true, false, Some, List, slice_get, take}
+use Rattle.std.specs.Prelude.{ℕ, ◌≡◌, ◌⊎◌, ◌++◌, ◌∷◌, [], Bool, true, false, Some, List, slice_get, take}
 use Rattle.c2po_unfold.specs.declared.path.Path.{Path}
 use Rattle.c2po_unfold.specs.declared.path.Turn.{Turn}
 use Rattle.c2po_unfold.specs.declared.scope.Choice.{Choice}
@@ -39,6 +39,10 @@ abbrev pub HasReached : List Path → Path → (level number : ℕ) → Type 0
 HasReached paths p level number =
     (q : Path) × (slice_get paths number ≡ Some q) × IsReached (path_of p) (path_of q) level number
 
+-- after other paths there is one more: one that has the numbers of this path, and this number at a level
+abbrev pub AddsReached : (old new : List Path) → Path → (level number : ℕ) → Type 0
+AddsReached old new p level number = (q : Path) × (new ≡ old ++ q ∷ []) × IsReached (path_of p) (path_of q) level number
+
 -- a path has the numbers of another one, and one at the first level
 abbrev pub HasBegun : (old new : List ℕ) → Type 0
 HasBegun old new = (number : ℕ) × IsReached old new 0 number
@@ -71,10 +75,9 @@ abbrev pub AreMarked : (level : ℕ) → (marks : List Bool) → Bool → List P
 AreMarked level marks b paths =
     (m : Mode) (k : ℕ) (p : Path) → slice_get paths k ≡ Some p → IsMarked (chosen m (path_of p)) level marks b
 
--- a member is a value: the one that a stored member represents, of which this is known where that is said
+-- a member is a value: the one that a stored member represents, or one of which this is known
 abbrev pub IsMember : Mode → Unfolding → Member → Value → Type 0
 IsMember m u (member.Held s i) v = Holds u s v
-IsMember m u (member.Leaf k s i) v = IsSummary m k v × Holds u s v
 IsMember m u (member.Known k) v = IsSummary m k v
 
 -- a value is that of the member with the number that the case has at a level

@@ -10,6 +10,8 @@ use Rattle.mltl_base.specs.declared.range.NoRange as answer
 use Rattle.mltl_base.specs.Answers.{reason}
 use Rattle.c2po_nodes.specs.Nodes.{Tree, number, formula}
 use Rattle.c2po_unfold.specs.declared.fact.Fact.{Fact}
+use Rattle.c2po_unfold.specs.declared.fact.Tenses.{Tenses}
+use Rattle.c2po_unfold.specs.declared.fact.Tenses as tenses
 use Rattle.c2po_unfold.specs.declared.fact.Fact.TheVariants.{Number, Within, NoNumber, Formula, Parts}
 use Rattle.c2po_nodes.specs.Faults.{formula_fault}
 use Rattle.c2po_nodes.specs.Tenses.{has_past, has_future}
@@ -34,12 +36,26 @@ told_range (Err why) = Err (reason why)
 abbrev pub told_fault : Option answer.NoRange → Option NoRange
 told_fault fault = option_map reason fault
 
+-- operators of the past are among these
+abbrev pub with_past : Tenses → Bool
+with_past tenses.TheVariants.None = false
+with_past tenses.TheVariants.Past = true
+with_past tenses.TheVariants.Future = false
+with_past tenses.TheVariants.Both = true
+
+-- operators of the future are among these
+abbrev pub with_future : Tenses → Bool
+with_future tenses.TheVariants.None = false
+with_future tenses.TheVariants.Past = false
+with_future tenses.TheVariants.Future = true
+with_future tenses.TheVariants.Both = true
+
 -- what a fact says of a value, if it is an integer or a formula
 abbrev pub fact_view : Fact → Option TreeFact
 fact_view (Number r) = Some (whole (Ok r))
 fact_view (Within r) = Some (within r)
 fact_view (NoNumber why) = Some (whole (Err (reason why)))
-fact_view (Formula fault tenses) = Some (truth (told_fault fault) tenses.past tenses.future)
+fact_view (Formula fault t) = Some (truth (told_fault fault) (with_past t) (with_future t))
 fact_view Parts = None
 
 -- a fact says what is known of a tree, if there is one

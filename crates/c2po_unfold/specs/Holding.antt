@@ -15,7 +15,7 @@ use Rattle.c2po_unfold.specs.Values.{Value, Values, leaf, structure, set, none, 
 use Rattle.c2po_unfold.specs.Weights.{leaf_weight, parts_weight, weight as weight_of}
 use Rattle.c2po_nodes.specs.Faults.{tree_fault, formula_fault}
 use Rattle.c2po_nodes.specs.Tenses.{has_past, has_future}
-use Rattle.c2po_unfold.specs.Facts.{Tells, told_fault}
+use Rattle.c2po_unfold.specs.Facts.{Tells, told_fault, with_future, with_past}
 use Rattle.c2po_unfold.specs.Faults.{values_fault}
 use Rattle.c2po_unfold.specs.Environment.{Env, Known, nothing, fields, value}
 
@@ -61,8 +61,8 @@ pub record StandsFor (u : Unfolding) (env : Env) : Type 0 where
 pub record Weighs (found : Weighed) (v : Value) : Type 0 where
   pub weight : found.weight ≡ weight_of v
   pub fault : told_fault found.fault ≡ formula_fault (formula_of v)
-  pub past : found.tenses.past ≡ has_past (formula_of v)
-  pub future : found.tenses.future ≡ has_future (formula_of v)
+  pub past : with_past found.tenses ≡ has_past (formula_of v)
+  pub future : with_future found.tenses ≡ has_future (formula_of v)
 
 -- what an unfolding has stays at its place
 pub record Keeps (old new : Unfolding) : Type 0 where

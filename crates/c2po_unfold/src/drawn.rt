@@ -9,7 +9,7 @@ ghost use Rattle.c2po_unfold.specs.declared.path.Turn.{Turn as CaseTurn};
 ghost use Rattle.c2po_unfold.specs.Ahead.{IsDrawnAhead, IsTold, KnownFor};
 ghost use Rattle.c2po_unfold.specs.Along.{Reaches};
 ghost use Rattle.c2po_unfold.specs.Bodies.{MeetsBodyIn};
-ghost use Rattle.c2po_unfold.specs.Cases.{IsDrawn, chosen, path_of};
+ghost use Rattle.c2po_unfold.specs.Cases.{IsDrawn, IsParted, chosen, path_of};
 ghost use Rattle.c2po_unfold.specs.Covering.{Mode};
 ghost use Rattle.c2po_unfold.specs.Environment.{Env};
 ghost use Rattle.c2po_unfold.specs.Resolving.{resolved_body, resolved_value};
@@ -156,7 +156,8 @@ impl Unfolding {
         Each::followed(self.alloc, &some, first.len(), &rest, others.len())
     }
 
-    /// What is known in each case by what is known in those of two lists of paths, in which the cases follow one another.
+    /// What is known in each case by what is known in those of two lists of paths, in which the cases follow one another; that
+    /// where it is the same formula without a fault in all of them.
     pub(crate) fn merged(
         &self,
         cases: Cases<'_>,
@@ -164,9 +165,13 @@ impl Unfolding {
         others: Told<'_>,
     ) -> Result<Each, Stop>
         ensures { (m : Mode) (i : ℕ) (p : CasePath) (v : Value)
-            → slice_get cases.entry.paths.now i ≡ Some p → IsTold m like.entry p v
+            → slice_get cases.entry.paths.now i ≡ Some p
+            → IsParted p like.entry.paths.now others.entry.paths.now → IsTold m like.entry p v
             → IsTold m others.entry p v → IfOk result (λ r. KnownFor m r i v) }
     {
+        if let Some(summary) = Each::agreed(like.each, others.each) {
+            return Ok(Each::Same(summary));
+        }
         let mut all = Vec::with_capacity(self.alloc, cases.len())?;
         let (mut i, mut j) = (0_usize, 0_usize);
         for path in cases.paths {

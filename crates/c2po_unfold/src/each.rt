@@ -270,6 +270,20 @@ impl Each {
         Ok(())
     }
 
+    /// What is known in all cases of both, if that is the same formula without a fault.
+    #[inline(always)]
+    pub(crate) fn agreed(first: &Each, rest: &Each) -> Option<Summary>
+        ensures first { (m : Mode) (i : ℕ) (v : Value) → KnownFor m first.now i v
+            → IfSome result (λ s. IsSummary m s v) }
+        ensures rest { (m : Mode) (i : ℕ) (v : Value) → KnownFor m rest.now i v
+            → IfSome result (λ s. IsSummary m s v) }
+    {
+        match (first, rest) {
+            (Each::Same(a), Each::Same(b)) if a.is(b) => Some(*a),
+            _ => None,
+        }
+    }
+
     /// What is known in each of `count` cases, and in each of `more` cases that follow them.
     pub(crate) fn followed(
         alloc: Global,

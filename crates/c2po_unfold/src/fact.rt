@@ -9,59 +9,87 @@ ghost use Rattle.mltl_base.specs.Formula.{atom, negation};
 ghost use Rattle.mltl_base.specs.Ranges.{negated, over};
 ghost use Rattle.c2po_nodes.specs.Faults.{or_later, tree_fault, why_none};
 ghost use Rattle.c2po_unfold.specs.Covering.{Mode, Says, covering, integer_view, reached, widened};
-ghost use Rattle.c2po_unfold.specs.Facts.{Tells, exact_in, fact_view, fault_in, future_in, past_in, range_by, range_in, told_range, told_fault};
+ghost use Rattle.c2po_unfold.specs.Facts.{Tells, exact_in, fact_view, fault_in, future_in, past_in, range_by, range_in, told_range, told_fault, with_future, with_past};
 ghost use Rattle.c2po_nodes.specs.Nodes.{Tree, arithmetic, comparison, connected, constant_formula, formula, formula_in, number, ranged, term_in, windowed};
 
 use mltl_base::range::{self, NoRange, Range};
 use mltl_base::{ArithOp, BetweenOp, WindowOp};
 
-/// Whether operators of the past, and of the future, are in a formula.
+/// Of which tenses a formula has operators.
 #[derive(Clone, Copy)]
-pub struct Tenses {
-    pub past: bool,
-    pub future: bool,
+pub enum Tenses {
+    None,
+    Past,
+    Future,
+    Both,
 }
 
 impl Tenses {
-    /// Those of no operator.
-    const NONE: Tenses = Tenses {
-        past: false,
-        future: false,
-    };
+    /// Whether there are operators of the past.
+    #[inline(always)]
+    pub fn has_past(self) -> bool
+        ensures { result ≡ with_past self }
+    {
+        matches!(self, Tenses::Past | Tenses::Both)
+    }
+
+    /// Whether there are operators of the future.
+    #[inline(always)]
+    pub fn has_future(self) -> bool
+        ensures { result ≡ with_future self }
+    {
+        matches!(self, Tenses::Future | Tenses::Both)
+    }
+
+    /// Whether these are the same.
+    #[inline(always)]
+    fn is(self, other: Tenses) -> bool
+        ensures { result ≡ true → self ≡ other }
+    {
+        match (self, other) {
+            (Tenses::None, Tenses::None)
+            | (Tenses::Past, Tenses::Past)
+            | (Tenses::Future, Tenses::Future)
+            | (Tenses::Both, Tenses::Both) => true,
+            _ => false,
+        }
+    }
 
     /// Those of either of two formulas.
     #[inline(always)]
     fn or(self, other: Tenses) -> Tenses
-        ensures past { result.past ≡ (self.past || other.past) }
-        ensures future { result.future ≡ (self.future || other.future) }
+        ensures past { with_past result ≡ (with_past self || with_past other) }
+        ensures future { with_future result ≡ (with_future self || with_future other) }
     {
-        Tenses {
-            past: self.past || other.past,
-            future: self.future || other.future,
+        match other {
+            Tenses::None => self,
+            Tenses::Past => self.and_past(),
+            Tenses::Future => self.and_future(),
+            Tenses::Both => Tenses::Both,
         }
     }
 
     /// The same, with an operator of the past.
     #[inline(always)]
     fn and_past(self) -> Tenses
-        ensures past { result.past ≡ true }
-        ensures future { result.future ≡ self.future }
+        ensures past { with_past result ≡ true }
+        ensures future { with_future result ≡ with_future self }
     {
-        Tenses {
-            past: true,
-            future: self.future,
+        match self {
+            Tenses::None | Tenses::Past => Tenses::Past,
+            Tenses::Future | Tenses::Both => Tenses::Both,
         }
     }
 
     /// The same, with an operator of the future.
     #[inline(always)]
     fn and_future(self) -> Tenses
-        ensures past { result.past ≡ self.past }
-        ensures future { result.future ≡ true }
+        ensures past { with_past result ≡ with_past self }
+        ensures future { with_future result ≡ true }
     {
-        Tenses {
-            past: self.past,
-            future: true,
+        match self {
+            Tenses::None | Tenses::Future => Tenses::Future,
+            Tenses::Past | Tenses::Both => Tenses::Both,
         }
     }
 }
@@ -105,12 +133,12 @@ pub fn fault_of(fact: &Fact) -> Option<NoRange>
 /// Returns the tenses of an operand; none where it isn't a formula.
 #[inline(always)]
 pub fn tenses_of(fact: &Fact) -> Tenses
-    ensures past { result.past ≡ past_in (fact_view fact.now) }
-    ensures future { result.future ≡ future_in (fact_view fact.now) }
+    ensures past { with_past result ≡ past_in (fact_view fact.now) }
+    ensures future { with_future result ≡ future_in (fact_view fact.now) }
 {
     match fact {
         Fact::Formula(_, tenses) => *tenses,
-        Fact::Number(_) | Fact::Within(_) | Fact::NoNumber(_) | Fact::Parts => Tenses::NONE,
+        Fact::Number(_) | Fact::Within(_) | Fact::NoNumber(_) | Fact::Parts => Tenses::None,
     }
 }
 
@@ -248,9 +276,7 @@ impl Fact {
         ensures { result ≡ true → self.now ≡ other.now }
     {
         match (self, other) {
-            (Fact::Formula(None, own), Fact::Formula(None, tenses)) => {
-                own.past == tenses.past && own.future == tenses.future
-            }
+            (Fact::Formula(None, own), Fact::Formula(None, tenses)) => own.is(*tenses),
             _ => false,
         }
     }
@@ -272,7 +298,7 @@ impl Fact {
         ensures truth { (b : Bool) → Tells result (Some (formula (constant_formula b))) }
         ensures signal { (n : ℕ) → Tells result (Some (formula (atom (is_true n)))) }
     {
-        Fact::Formula(None, Tenses::NONE)
+        Fact::Formula(None, Tenses::None)
     }
 
     /// Returns what is known of a number.
@@ -377,7 +403,7 @@ impl Fact {
         let left = why_none_of(range_of(a));
         let right = why_none_of(range_of(b));
         let fault = first_fault(left, right);
-        Fact::Formula(fault, Tenses::NONE)
+        Fact::Formula(fault, Tenses::None)
     }
 
     /// Returns what is known of two formulas under a connective.

@@ -9,7 +9,7 @@ ghost use Rattle.c2po_unfold.specs.declared.operators.BinaryOp.TheVariants.{Logi
 ghost use Rattle.c2po_unfold.specs.declared.path.Path.{Path as CasePath};
 ghost use Rattle.c2po_unfold.specs.Ahead.{HasMember, HoldsFor, IsGathered, KnownFor, known_at};
 ghost use Rattle.c2po_unfold.specs.Bodies.{MeetsBodyIn};
-ghost use Rattle.c2po_unfold.specs.Cases.{chosen, path_of};
+ghost use Rattle.c2po_unfold.specs.Cases.{AddsReached, chosen, path_of};
 ghost use Rattle.c2po_unfold.specs.Covering.{Mode};
 ghost use Rattle.c2po_unfold.specs.Environment.{Env};
 ghost use Rattle.c2po_unfold.specs.Lanes.{AreLanes, AreLooked, IsSetIn, IsSetOf};
@@ -23,7 +23,7 @@ ghost use Rattle.c2po_unfold.specs.Values.{Value, connected_all, counted, member
 use crate::Unfolding;
 use crate::counting::Counting;
 use crate::each::{Each, Stop, add};
-use crate::path::{Cases, Path, Turn};
+use crate::path::{Cases, Path, Turn, add_reaching};
 use crate::resolved::Quantified;
 use crate::room::Room;
 use crate::scope::{Draw, Member, Site};
@@ -88,27 +88,29 @@ impl Lanes {
         })
     }
 
-    /// Puts a member of which nothing is listed after those that are there.
+    /// Puts a member of which nothing is listed after those that are there, with a path that has its number at a level.
     #[inline(always)]
-    fn push_turn(&mut self, turn: Turn, path: Path) -> Result<(), Stop>
+    fn push_turn(&mut self, turn: Turn, path: &Path, level: usize) -> Result<(), Stop>
         ensures turns { OnOk result (self.new.turns.items ≡ self.old.turns.items ++ turn ∷ []) }
         ensures members { self.new.members ≡ self.old.members }
-        ensures paths { OnOk result (self.new.paths.items ≡ self.old.paths.items ++ path ∷ []) }
+        ensures paths { OnOk result (AddsReached self.old.paths.items self.new.paths.items path.now
+            level (length self.old.turns.items)) }
     {
+        let number = self.turns.len();
         add(&mut self.turns, turn)?;
-        add(&mut self.paths, path)?;
-        Ok(())
+        add_reaching(&mut self.paths, path, level, number)
     }
 
-    /// Puts a member after those that are there.
+    /// Puts a member after those that are there, with a path that has its number at a level.
     #[inline(always)]
-    fn push(&mut self, turn: Turn, member: Member, path: Path) -> Result<(), Stop>
+    fn push(&mut self, turn: Turn, member: Member, path: &Path, level: usize) -> Result<(), Stop>
         ensures turns { OnOk result (self.new.turns.items ≡ self.old.turns.items ++ turn ∷ []) }
         ensures members { OnOk result
             (self.new.members.items ≡ self.old.members.items ++ member ∷ []) }
-        ensures paths { OnOk result (self.new.paths.items ≡ self.old.paths.items ++ path ∷ []) }
+        ensures paths { OnOk result (AddsReached self.old.paths.items self.new.paths.items path.now
+            level (length self.old.turns.items)) }
     {
-        self.push_turn(turn, path)?;
+        self.push_turn(turn, path, level)?;
         add(&mut self.members, member)
     }
 }
@@ -462,10 +464,11 @@ impl Unfolding {
     {
         let mut all = Vec::with_capacity(self.alloc, sets.len())?;
         for set in sets {
-            let Some(stored) = self.held_members(*set).get(0) else {
+            let Some(first) = self.held_members(*set).get(0) else {
                 return Err(Stop::Alone);
             };
-            add(&mut all, self.member_of(*stored, 0))?;
+            let stored = *first;
+            add(&mut all, Member::Held { stored, index: 0 })?;
         }
         Ok(all)
     }
@@ -586,14 +589,16 @@ impl Unfolding {
         let members = self.held_members(*set);
         let path = over.cases.paths.get(turn.case).ok_or(Stop::Alone)?;
         for member in turn.member..members.len() {
-            let count = lanes.turns.len();
-            if count >= TOGETHER {
+            if lanes.turns.len() >= TOGETHER {
                 break;
             }
-            let stored = members.get(member).ok_or(Stop::Alone)?;
-            let path = path.reaching(over.level, count).ok_or(Stop::Alone)?;
+            let own = members.get(member).ok_or(Stop::Alone)?;
+            let held = Member::Held {
+                stored: *own,
+                index: member,
+            };
             let turn = Turn { member, ..turn };
-            lanes.push(turn, self.member_of(*stored, member), path)?;
+            lanes.push(turn, held, path, over.level)?;
         }
         Ok(())
     }
@@ -607,13 +612,11 @@ impl Unfolding {
         let members = self.set_count(over, turn.case)?;
         let path = over.cases.paths.get(turn.case).ok_or(Stop::Alone)?;
         for member in turn.member..members {
-            let count = lanes.turns.len();
-            if count >= TOGETHER {
+            if lanes.turns.len() >= TOGETHER {
                 break;
             }
-            let path = path.reaching(over.level, count).ok_or(Stop::Alone)?;
             let turn = Turn { member, ..turn };
-            lanes.push_turn(turn, path)?;
+            lanes.push_turn(turn, path, over.level)?;
         }
         Ok(())
     }

@@ -1,12 +1,12 @@
 //! The numbers by which a case chooses members.
 
-ghost use Rattle.std.specs.Prelude.{true, false, ◌≡◌, ◌+◌, ◌*◌, ◌%◌, ◌<◌, ℕ, Some, IfOk, IfSome, length, slice_get};
-ghost use Rattle.c2po_unfold.specs.Cases.{AreMarked, HasBegun, HasReached, HasStarted, IsParted, IsReached, IsSplit, path_of};
+ghost use Rattle.std.specs.Prelude.{true, false, ◌≡◌, ◌+◌, ◌*◌, ◌%◌, ◌<◌, ℕ, Some, IfOk, IfSome, OnOk, length, slice_get};
+ghost use Rattle.c2po_unfold.specs.Cases.{AddsReached, AreMarked, HasBegun, HasReached, HasStarted, IsParted, IsReached, IsSplit, path_of};
 ghost use Rattle.c2po_unfold.specs.Covering.{Mode};
 ghost use Rattle.c2po_unfold.specs.declared.path.Path.{Path as CasePath};
 
 use crate::each::{Stop, add};
-use crate::scope::{Draw, Marks};
+use crate::scope::{Draw, Drawn, Marks};
 use crate::together::TOGETHER;
 use std::alloc::Global;
 
@@ -97,16 +97,16 @@ impl Path {
         self.count == other.count
     }
 
-    /// The path with this number at a level: this one if it has it there, else with one number more; `None` where there is no
-    /// room for it, or another number at the level.
+    /// Makes this the path with this number at a level, with one number more where it has none there; an error where there is
+    /// no room for it, or another number at the level.
     #[inline(always)]
-    pub(crate) fn reaching(&self, level: usize, number: usize) -> Option<Path>
-        ensures { IfSome result (λ r. IsReached (path_of self.now) (path_of r) level number) }
+    fn reach(&mut self, level: usize, number: usize) -> Result<(), Stop>
+        ensures { OnOk result (IsReached (path_of self.old) (path_of self.new) level number) }
     {
         match self.at(level) {
-            Some(own) if own == number => Some(*self),
-            Some(_) => None,
-            None => self.with(level, number),
+            Some(own) if own == number => Ok(()),
+            Some(_) => Err(Stop::Alone),
+            None => self.grow(level, number),
         }
     }
 
@@ -124,20 +124,40 @@ impl Path {
         }
     }
 
-    /// The path with one number more, which is at this level.
+    /// Puts one number more, which is at this level.
     #[inline(always)]
-    fn with(&self, level: usize, number: usize) -> Option<Path>
-        ensures { IfSome result (λ r. IsReached (path_of self.now) (path_of r) level number) }
+    fn grow(&mut self, level: usize, number: usize) -> Result<(), Stop>
+        ensures { OnOk result (IsReached (path_of self.old) (path_of self.new) level number) }
     {
         if level != self.len() || level >= LEVELS {
-            return None;
+            return Err(Stop::Alone);
         }
-        let mut numbers = self.numbers;
-        numbers[level] = u8::try_from(number).ok()?;
-        Some(Path {
-            numbers,
-            count: self.count + 1,
-        })
+        let Ok(number) = u8::try_from(number) else {
+            return Err(Stop::Alone);
+        };
+        self.numbers[level] = number;
+        self.count += 1;
+        Ok(())
+    }
+}
+
+/// Puts the path with this number at a level after others: this one, with one number more where it has none there. It is
+/// written where it stays.
+#[inline(always)]
+pub(crate) fn add_reaching(
+    paths: &mut Vec<Path>,
+    path: &Path,
+    level: usize,
+    number: usize,
+) -> Result<(), Stop>
+    ensures { OnOk result
+        (AddsReached paths.old.items paths.new.items path.now level number) }
+{
+    let place = paths.len();
+    add(&mut *paths, *path)?;
+    match paths.get_mut(place) {
+        Some(last) => last.reach(level, number),
+        None => Err(Stop::Alone),
     }
 }
 
@@ -220,23 +240,34 @@ impl<'a> Cases<'a> {
         true
     }
 
-    /// How many cases draw what the first one does, where they are those that come first, and others follow.
+    /// How many cases come first that draw what the first one does, where others follow, of which none draws the same, or no more
+    /// than these.
     pub(crate) fn led(self, draw: Draw<'_>) -> Option<usize> {
         let first = draw.drawn(self.paths.get(0)?);
-        let mut count = 0_usize;
+        let count = self.like(draw, first)?;
+        let others = self.along(self.paths.get(count..)?);
+        let enough = count >= others.len() || !others.draw_one(draw, first);
+        if enough { Some(count) } else { None }
+    }
+
+    /// How many cases come first that draw this, where others follow.
+    fn like(self, draw: Draw<'_>, first: Drawn) -> Option<usize> {
         for i in 0..self.len() {
-            if draw.drawn(self.paths.get(i)?).is(first) {
-                if count < i {
-                    return None;
-                }
-                count = i.saturating_add(1);
+            if !draw.drawn(self.paths.get(i)?).is(first) {
+                return Some(i);
             }
         }
-        if count < self.len() {
-            Some(count)
-        } else {
-            None
+        None
+    }
+
+    /// Whether one of them draws this.
+    fn draw_one(self, draw: Draw<'_>, drawn: Drawn) -> bool {
+        for path in self.paths {
+            if draw.drawn(path).is(drawn) {
+                return true;
+            }
         }
+        false
     }
 
     /// The same cases, each with a number at the first level.
@@ -319,8 +350,7 @@ impl<'a> Cases<'a> {
         let mut paths = Vec::with_capacity(alloc, all)?;
         for l in 0..all {
             let path = self.paths.get(place(l, self.len())).ok_or(Stop::Alone)?;
-            let path = path.reaching(level, l).ok_or(Stop::Alone)?;
-            add(&mut paths, path)?;
+            add_reaching(&mut paths, path, level, l)?;
         }
         Ok(paths)
     }

@@ -114,15 +114,8 @@ pub struct Choice<'a> {
 /// A member of a set in a case.
 #[derive(Clone, Copy)]
 pub enum Member {
-    /// A stored struct's value or set.
+    /// A stored value.
     Held {
-        stored: Stored,
-        /// Which member of the set it is.
-        index: usize,
-    },
-    /// A stored integer or formula of which this is known.
-    Leaf {
-        summary: Summary,
         stored: Stored,
         /// Which member of the set it is.
         index: usize,
@@ -139,7 +132,7 @@ impl Member {
             → IfSome result (λ s. Holds u s v) }
     {
         match self {
-            Member::Held { stored, .. } | Member::Leaf { stored, .. } => Some(*stored),
+            Member::Held { stored, .. } => Some(*stored),
             Member::Known(_) => None,
         }
     }
@@ -150,11 +143,8 @@ impl Member {
         ensures { (m : Mode) (u : Unfolding) (w v : Value) → IsMember m u self.now w
             → RowsLead u rows.now w v → IfSome result (λ s. Holds u s.now v) }
     {
-        let (stored, index) = match self {
-            Member::Held { stored, index } | Member::Leaf { stored, index, .. } => {
-                (*stored, *index)
-            }
-            Member::Known(_) => return None,
+        let Member::Held { stored, index } = *self else {
+            return None;
         };
         let row = rows.get(index)?;
         if row.member.is(stored) {

@@ -122,10 +122,10 @@ impl Unfolding {
             let Some(set) = self.looked_up(lookup, member) else {
                 return Ok(None);
             };
-            let Some(only) = self.only_member(set) else {
+            let Some(stored) = self.only_member(set) else {
                 return Ok(None);
             };
-            add(&mut all, self.member_of(only, 0))?;
+            add(&mut all, Member::Held { stored, index: 0 })?;
         }
         Ok(Some(all))
     }

@@ -35,12 +35,12 @@ use crate::resolved::{Quantified, Resolved, Row};
 use crate::room::Room;
 use crate::scope::{Choice, Draw, Head, Led, Member, Scope, Site};
 use crate::summary::Summary;
-use crate::values::{Location, Stored};
+use crate::values::Stored;
 use crate::{UnfoldFault, Unfolding};
 use mltl_base::{CountOp, LogicOp, Name};
 
 /// How many cases are looked at together at most.
-pub(crate) const TOGETHER: usize = 64;
+pub(crate) const TOGETHER: usize = 128;
 
 /// The number of cases up to which two members or more are looked at together.
 pub(crate) const FEW: usize = TOGETHER / 2;
@@ -331,7 +331,8 @@ impl Unfolding {
             let j = round(i, count);
             let stored = members.get(j).ok_or(Stop::Alone)?;
             let index = start.checked_add(j).ok_or(Stop::Alone)?;
-            add(&mut varied, self.member_of(*stored, index))?;
+            let stored = *stored;
+            add(&mut varied, Member::Held { stored, index })?;
         }
         Ok(varied)
     }
@@ -351,21 +352,6 @@ impl Unfolding {
         Ok(Each::Own(all))
     }
 
-    /// The member of a set that is this stored value: what is known of an integer or a formula goes with it.
-    #[inline(always)]
-    pub(crate) fn member_of(&self, stored: Stored, index: usize) -> Member
-        ensures { (m : Mode) (v : Value) → Holds self.now stored v → IsMember m self.now result v }
-    {
-        match stored.location {
-            Location::Leaf(_) => Member::Leaf {
-                summary: self.held(stored),
-                stored,
-                index,
-            },
-            Location::Parts(_) => Member::Held { stored, index },
-        }
-    }
-
     /// What is known of a member.
     #[inline(always)]
     fn member_summary(&self, member: &Member) -> Summary
@@ -374,7 +360,7 @@ impl Unfolding {
     {
         match member {
             Member::Held { stored, .. } => self.held(*stored),
-            Member::Leaf { summary, .. } | Member::Known(summary) => *summary,
+            Member::Known(summary) => *summary,
         }
     }
 

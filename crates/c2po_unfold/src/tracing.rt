@@ -189,7 +189,8 @@ impl Unfolding {
             (AreStored self.now values.now (length values.now) all.old.items all.new.items) }
     {
         for stored in values {
-            add(&mut *all, self.member_of(*stored, index))?;
+            let stored = *stored;
+            add(&mut *all, Member::Held { stored, index })?;
         }
         Ok(())
     }

@@ -1,12 +1,12 @@
 use Rattle.std.proofs.Common.{◌∙◌}
 use Rattle.c2po_nodes.specs.Nodes.{formula_in}
-use Rattle.c2po_unfold.specs.Facts.{told_fault}
+use Rattle.c2po_unfold.specs.Facts.{told_fault, with_future, with_past}
 use Rattle.c2po_unfold.proofs.Knowing.{both_known, known_until, known_since}
 use Rattle.c2po_unfold.proofs.fact.Fact.between.Goals as goal
 
 pub returns-in-U : goal.returns-in-U
 returns-in-U c = λ m i o q h k.
-    let both = both_known m c.args.a.now c.args.b.now o q (told_fault c.first_fault-fault.result) c.or-tenses.result.past c.or-tenses.result.future
+    let both = both_known m c.args.a.now c.args.b.now o q (told_fault c.first_fault-fault.result) (with_past c.or-tenses.result) (with_future c.or-tenses.result)
     (rw (← c.fault_of.ensures, ← c.fault_of-2.ensures) c.first_fault-fault.ensures)
     (rw (← c.tenses_of.ensures.past, ← c.tenses_of-2.ensures.past) c.or-tenses.ensures.past)
     (rw (← c.tenses_of.ensures.future, ← c.tenses_of-2.ensures.future) c.or-tenses.ensures.future) h k in
@@ -14,7 +14,7 @@ returns-in-U c = λ m i o q h k.
 
 pub returns-in-S : goal.returns-in-S
 returns-in-S c = λ m i o q h k.
-    let both = both_known m c.args.a.now c.args.b.now o q (told_fault c.first_fault-fault.result) c.or-tenses.result.past c.or-tenses.result.future
+    let both = both_known m c.args.a.now c.args.b.now o q (told_fault c.first_fault-fault.result) (with_past c.or-tenses.result) (with_future c.or-tenses.result)
     (rw (← c.fault_of.ensures, ← c.fault_of-2.ensures) c.first_fault-fault.ensures)
     (rw (← c.tenses_of.ensures.past, ← c.tenses_of-2.ensures.past) c.or-tenses.ensures.past)
     (rw (← c.tenses_of.ensures.future, ← c.tenses_of-2.ensures.future) c.or-tenses.ensures.future) h k in

@@ -11,13 +11,12 @@ loop-l-preserved c =
     let level = c.args.level in
     let l = c.loop-l.l in
     let own = c.in_ok-path.path.now in
-    let new = c.in_ok-path-2.path in
+    let added = c.in_ok-add_reaching.ensures in
     let at : slice_get paths c.place.result ≡ Some own =
     lent_at paths c.place.result c.get.result c.in_ok-path.path c.get.ensures.lookup c.in_ok-path.ensures.ok_part in
     let place = c.place.ensures ∙ ap (λ n. l % n) c.len-in-loop-l.ensures in
-    let reached = subst (λ o. IfSome o (λ r. IsReached (path_of own) (path_of r) level l)) c.in_ok-path-2.ensures.ok_part c.reaching.ensures in
-    rounds_more paths level l c.loop-l.paths.items c.add.new.all.items new c.loop-l.invariant c.in_ok-add.ensures
-    (λ p there. subst (λ q. IsReached (path_of q) (path_of new) level l) (same_Some own p (sym (subst (λ k. slice_get paths k ≡ Some own) place at) ∙ there)) reached)
+    rounds_more paths level l c.loop-l.paths.items c.add_reaching.new.paths.items added.0 c.loop-l.invariant added.1
+    (λ p there. subst (λ q. IsReached (path_of q) (path_of added.0) level l) (same_Some own p (sym (subst (λ k. slice_get paths k ≡ Some own) place at) ∙ there)) added.2)
 
 pub returns-clause-paths : goal.returns-clause-paths
 returns-clause-paths c = λ i j p at round.

@@ -7,7 +7,7 @@ use Rattle.c2po_nodes.specs.Nodes.{number}
 use Rattle.c2po_unfold.specs.Ahead.{AreLight, GatheredFor, HasMember, HoldsFor, IsAheadIn, IsListed, KnownFor, IsGathered}
 use Rattle.std.specs.Str.{bytes_eq}
 use Rattle.c2po_unfold.specs.Along.{IsAlong}
-use Rattle.c2po_unfold.specs.Cases.{IsAmong, IsVaried, chosen, path_of}
+use Rattle.c2po_unfold.specs.Cases.{IsAmong, IsParted, IsVaried, chosen, path_of}
 use Rattle.c2po_unfold.specs.Environment.{bind, fields_in, value_in}
 use Rattle.c2po_unfold.specs.Facts.{Tells}
 use Rattle.c2po_unfold.specs.Heads.{AreSets, HeadsIn, IsAfter, IsLed, IsOnly, IsPartIn}
@@ -16,7 +16,7 @@ use Rattle.c2po_unfold.specs.declared.scope.Scope.{Scope}
 use Rattle.c2po_unfold.specs.Scopes.{FitsIn, IsEntry, names_of}
 use Rattle.c2po_unfold.specs.Summaries.{IsSummary}
 use Rattle.c2po_unfold.specs.Values.{Value, built, grouped, connected_all, counted, integer, members, truth_value}
-use Rattle.c2po_unfold.proofs.Cases.{binary_meets, binary_same, body_meets, body_further, marked_once, after_all, only_of_last, only_of_two, varied_here, part_meets, unary_meets, unary_same}
+use Rattle.c2po_unfold.proofs.Cases.{binary_meets, binary_same, body_meets, body_further, marked_once, of_either, after_all, only_of_last, only_of_two, varied_here, part_meets, unary_meets, unary_same}
 use Rattle.c2po_unfold.proofs.Columns.{column_bound, column_holds}
 use Rattle.c2po_unfold.proofs.Turnwise.{light_ahead, meets_further, some_light}
 use Rattle.c2po_unfold.proofs.Loops.{bodies_by, bodies_count, body_at, joined_one, meets_within, member_at, none_left}
@@ -679,7 +679,11 @@ each_led-returns-in-Err-Alone t c = λ m base env i p inside h. c.each_along.ens
 
 pub each_parted-returns : goal.each_parted-returns
 each_parted-returns t c = λ m base i p v inside h.
-    c.merged.ensures m i p v inside
+    let parted : IsParted p c.as_slice-like.result.now c.as_slice-others.result.now = elim (c.in_ok-parted.ensures i p inside) [
+      | inl f ↦ inl (f.0, subst (λ ps. slice_get ps f.0 ≡ Some p) (sym c.as_slice-like.ensures.value) f.1)
+      | inr f ↦ inr (f.0, subst (λ ps. slice_get ps f.0 ≡ Some p) (sym c.as_slice-others.ensures.value) f.1)
+    ] in
+    c.merged.ensures m i p v inside parted
     (λ k at. c.in_ok-some.ensures m base k p v (subst (λ ps. slice_get ps k ≡ Some p) (sym c.along.ensures) at) h)
     (λ k at. c.in_ok-rest.ensures m base k p v (subst (λ ps. slice_get ps k ≡ Some p) (sym c.along-2.ensures) at) h)
 
@@ -823,7 +827,11 @@ each_marked-returns t c = λ m base env i p b v inside h marked like others alon
     let level = c.args.level in
     let marks = c.args.marks.now.some in
     let k = chosen m (path_of p) in
-    c.merged.ensures m i p v inside
+    let split = c.in_ok-parted.ensures.all m i p inside in
+    let parted : IsParted p c.as_slice-marked.result.now c.as_slice-rest.result.now = of_either split.0
+    (λ yes. let among = split.2 yes in inl (among.0, subst (λ ps. slice_get ps among.0 ≡ Some p) (sym c.as_slice-marked.ensures.value) among.1))
+    (λ no. let among = split.3 no in inr (among.0, subst (λ ps. slice_get ps among.0 ≡ Some p) (sym c.as_slice-rest.ensures.value) among.1)) in
+    c.merged.ensures m i p v inside parted
     (λ j at.
     let is = marked_once k level marks b true marked (c.in_ok-parted.ensures.like m j p (subst (λ ps. slice_get ps j ≡ Some p) c.as_slice-marked.ensures.value at)) in
     c.in_ok-first.ensures m base env j p v (subst (λ ps. slice_get ps j ≡ Some p) (sym c.along.ensures) at) h (like is) along)

@@ -1,4 +1,4 @@
-use Rattle.std.proofs.Common.{subst, sym, ◌∙◌, IfSome}
+use Rattle.std.proofs.Common.{length, subst, sym, ◌∙◌}
 use Rattle.std.proofs.lemmas.Option.{same_Some}
 use Rattle.c2po_unfold.specs.Cases.{IsReached, path_of}
 use Rattle.c2po_unfold.specs.declared.path.Path.{Path}
@@ -17,20 +17,17 @@ loop-member-preserved c =
     let case = c.args.turn.case in
     let k = c.loop-member.member in
     let ms = c.held_members-members.result.now in
-    let stored = c.in_ok-stored.stored.now in
-    let path = c.in_ok-path-2.path in
-    held_more u over lanes c.push.new.self (record { case = case; member = k }) _ path c.loop-member.invariant c.in_ok-push.ensures.turns
-    c.in_ok-push.ensures.members c.in_ok-push.ensures.paths
+    let stored = c.in_ok-own.own.now in
+    let added = c.in_ok-push.ensures.paths in
+    held_more u over lanes c.push.new.self (record { case = case; member = k }) _ added.0 c.loop-member.invariant c.in_ok-push.ensures.turns
+    c.in_ok-push.ensures.members added.1
     (λ p there.
     let here = lent_at over.cases.paths.now case c.get-2.result c.in_ok-path.path c.get-2.ensures.lookup c.in_ok-path.ensures.ok_part in
     let same = same_Some c.in_ok-path.path.now p (sym here ∙ there) in
-    let reached = subst (λ o. IfSome o (λ (r : Path). IsReached (path_of c.in_ok-path.path.now) (path_of r) over.level c.len-count.result)) c.in_ok-path-2.ensures.ok_part
-    c.reaching.ensures in
-    subst (λ n. IsReached (path_of p) (path_of path) over.level n) (c.len-count.ensures ∙ lanes.turns.ok.0)
-    (subst (λ (r : Path). IsReached (path_of r) (path_of path) over.level c.len-count.result) same reached))
+    subst (λ (r : Path). IsReached (path_of r) (path_of added.0) over.level (length lanes.turns.items)) same added.2)
     (λ m s v holds member.
     let own = own_holds u sets case c.in_ok-set.set.now s
     (lent_at sets case c.get.result c.in_ok-set.set c.get.ensures.lookup c.in_ok-set.ensures.ok_part)
     (subst (λ ss. IsHeldSet u ss case s) c.requires.sets holds) in
-    let at = lent_at ms k c.get-in-loop-member.result c.in_ok-stored.stored c.get-in-loop-member.ensures.lookup c.in_ok-stored.ensures.ok_part in
-    c.member_of.ensures m v (member_held s u ms k stored v (c.held_members-members.ensures s own) at member))
+    let at = lent_at ms k c.get-in-loop-member.result c.in_ok-own.own c.get-in-loop-member.ensures.lookup c.in_ok-own.ensures.ok_part in
+    member_held s u ms k stored v (c.held_members-members.ensures s own) at member)

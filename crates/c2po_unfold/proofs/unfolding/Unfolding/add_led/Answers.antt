@@ -1,4 +1,4 @@
-use Rattle.std.proofs.Common.{subst, sym, ◌∙◌, IfSome}
+use Rattle.std.proofs.Common.{length, subst, sym, ◌∙◌}
 use Rattle.std.proofs.lemmas.Option.{same_Some}
 use Rattle.c2po_unfold.specs.Cases.{IsReached, path_of}
 use Rattle.c2po_unfold.specs.declared.path.Path.{Path}
@@ -13,13 +13,10 @@ loop-member-preserved c =
     let lanes = c.loop-member.lanes in
     let case = c.args.turn.case in
     let k = c.loop-member.member in
-    let path = c.in_ok-path-2.path in
-    led_more u over lanes c.push_turn.new.self (record { case = case; member = k }) path c.requires.sets c.loop-member.invariant
-    c.in_ok-push_turn.ensures.turns c.in_ok-push_turn.ensures.paths
+    let added = c.in_ok-push_turn.ensures.paths in
+    led_more u over lanes c.push_turn.new.self (record { case = case; member = k }) added.0 c.requires.sets c.loop-member.invariant
+    c.in_ok-push_turn.ensures.turns added.1
     (λ p there.
     let here = lent_at over.cases.paths.now case c.get.result c.in_ok-path.path c.get.ensures.lookup c.in_ok-path.ensures.ok_part in
     let same = same_Some c.in_ok-path.path.now p (sym here ∙ there) in
-    let reached = subst (λ o. IfSome o (λ (r : Path). IsReached (path_of c.in_ok-path.path.now) (path_of r) over.level c.len-count.result)) c.in_ok-path-2.ensures.ok_part
-    c.reaching.ensures in
-    subst (λ n. IsReached (path_of p) (path_of path) over.level n) (c.len-count.ensures ∙ lanes.turns.ok.0)
-    (subst (λ (r : Path). IsReached (path_of r) (path_of path) over.level c.len-count.result) same reached))
+    subst (λ (r : Path). IsReached (path_of r) (path_of added.0) over.level (length lanes.turns.items)) same added.2)

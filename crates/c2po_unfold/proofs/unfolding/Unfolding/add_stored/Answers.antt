@@ -8,4 +8,4 @@ loop-stored-preserved c =
     let ss = c.args.values.now in
     let i = c.loop-stored.stored-index in
     stored_more u ss i _ c.args.all.now.items c.loop-stored.all.items c.add.new.all.items _ c.loop-stored.invariant c.in_ok-add.ensures
-    (slice_get-get_or ss i _ c.loop-stored-test.true) c.member_of.ensures
+    (slice_get-get_or ss i _ c.loop-stored-test.true) (λ m v h. h)

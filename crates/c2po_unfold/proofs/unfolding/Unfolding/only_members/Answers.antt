@@ -14,7 +14,7 @@ loop-member-preserved c =
     (λ m s h.
     let own = member_here m u all i h.2 _ h.3 h.4 (found_at all all i _ refl c.loop-member-test.true c.member-item.is) h.5 in
     let one = c.in-Some-only_member.ensures s (c.in-Some.ensures m h.0 h.1 h.3 s own h.6) in
-    (one.0, one.1, c.member_of.ensures m one.0 one.2))
+    (one.0, one.1, one.2))
 
 pub returns : goal.returns
 returns c = λ m k base j x w s at h lead.

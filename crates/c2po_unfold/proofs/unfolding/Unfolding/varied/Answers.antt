@@ -15,7 +15,7 @@ loop-i-preserved c =
     known_more (OfRound u c.args.members.now n) i c.loop-i.varied.items c.add.new.all.items _ c.loop-i.invariant c.in_ok-add.ensures
     (λ m v h.
     let same = same_Some own h.0 (sym at ∙ h.1) in
-    c.member_of.ensures m v (subst (λ s. Holds u s v) (sym same) h.2))
+    subst (λ s. Holds u s v) (sym same) h.2)
 
 pub returns-clause-members : goal.returns-clause-members
 returns-clause-members c = λ m i j s v inside at holds.
