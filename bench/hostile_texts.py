@@ -294,12 +294,22 @@ def many_chains(roots, depth, ways=2, twos=None):
     return sets
 
 
-def nested_members(levels):
-    """A definition of quantifiers over two formulas, the first of which is such a quantifier, so many within one another."""
-    member = '||'.join(['p'] * 9)
+def nested_members(levels, member='||'.join(['p'] * 9)):
+    """Quantifiers over two formulas, the first of which is such a quantifier, so many within one another."""
     for name in variables(levels):
         member = 'foreach(%s:{%s,q})(%s)' % (name, member, name)
-    return 'd#:=%s;\n' % member
+    return member
+
+
+def over_pairs(body):
+    return 'd#:=foreach(one:all)(foreach(two:all)(%s));\n' % body
+
+
+def uneven_formulas(count):
+    """Structs whose one field is a set of one to three formulas, and the set of all of them."""
+    sets = ('p', 'p,!q', 'p,!q,p&&q')
+    values = ['e%d:=t({%s});\n' % (k, sets[k % 3]) for k in range(count)]
+    return '%sSTRUCT t: { f: set<bool>; };\nDEFINE\n%sall:={%s};\n' % (SIGNALS, ''.join(values), members(count, 'e#'))
 
 
 def parted(levels, singles):
@@ -500,7 +510,13 @@ TEXTS = [
     filled('set-singles', 'the same in a member of the outermost of two sets', PICKED,
            numbered(over(['{{%s},{q}}' % passing(['r'] * 60, '@.a', 16), 'a'] + [TWO] * 14, 'b')), 'FTSPEC p;\n'),
     Text('nested-members', 'one definition of 60 quantifiers over two formulas, the first of which is the quantifier within',
-         lambda: SIGNALS + 'DEFINE\n' + numbered(nested_members(60))(0) + 'FTSPEC p;\n'),
+         lambda: SIGNALS + 'DEFINE\n' + numbered('d#:=%s;\n' % nested_members(60))(0) + 'FTSPEC p;\n'),
+    filled('nested-pairs', '45 of these within one over pairs of 20 numbers that divide', SIGNALS + 'DEFINE all:={%s};\n' % members(20, '1#'),
+           numbered(over_pairs('x/one<two||' + nested_members(45, 'p'))), 'FTSPEC p;\n'),
+    filled('nested-fields', '16 of these within one over pairs of 30 structs, around one over a field that is a set of one to three',
+           uneven_formulas(30), numbered(over_pairs(nested_members(16, 'foreach(of:one.f)(of)'))), 'FTSPEC p;\n'),
+    filled('nested-sets', 'the same around one over both structs, and one over their field', uneven_formulas(30),
+           numbered(over_pairs(nested_members(16, 'foreach(of:{one,two})(foreach(in:of.f)(in))'))), 'FTSPEC p;\n'),
     filled('written-fields', '60 quantifiers over a field that is a set of one, of the outermost of 15 pairs of written structs',
            OF_SETS, numbered(over([TWO_SETS] * 15 + ['a.f'] * 60, '@')), 'FTSPEC p;\n'),
     filled('written-sets', 'the same over the outermost of 15 pairs of sets of one', SIGNALS + 'DEFINE\n',

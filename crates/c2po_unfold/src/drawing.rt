@@ -86,6 +86,11 @@ impl<'a> SetsIn<'a> {
         }
     }
 
+    /// Whether these differ from case to case, and paths have no room for the numbers of their members.
+    pub(crate) fn need_level(&self, cases: Cases<'_>) -> bool {
+        matches!(self, SetsIn::Held(_) | SetsIn::Led) && cases.are_full()
+    }
+
     /// These stored sets, one for each case.
     fn stored(sets: Vec<Stored>) -> SetsIn<'a>
         ensures { (c : Case) (u : Table) (base : Env) (i : ℕ) (v : Value)

@@ -135,7 +135,7 @@ impl Unfolding {
 
     /// What is known in each case of a part of an expression's value, by so many first cases, and by all others.
     #[cycle(each)]
-    fn each_split(
+    pub(crate) fn each_split(
         &self,
         at: Site<'_>,
         cases: Cases<'_>,

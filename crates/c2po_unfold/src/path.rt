@@ -7,7 +7,7 @@ ghost use Rattle.c2po_unfold.specs.declared.path.Path.{Path as CasePath};
 
 use crate::each::{Stop, add};
 use crate::scope::{Draw, Drawn, Marks};
-use crate::together::TOGETHER;
+use crate::together::{FEW, TOGETHER};
 use std::alloc::Global;
 
 /// How many numbers a path has at most.
@@ -208,6 +208,16 @@ impl<'a> Cases<'a> {
             Some(path) => path.len(),
             None => 0,
         }
+    }
+
+    /// Whether they are few enough to multiply them by members, and their paths have room for the number of a member.
+    pub(crate) fn may_multiply(self) -> bool {
+        self.len() <= FEW && self.level() < LEVELS
+    }
+
+    /// Whether they are several, and their paths have room for no further number.
+    pub(crate) fn are_full(self) -> bool {
+        self.len() > 1 && self.level() >= LEVELS
     }
 
     /// Whether the path of each case has the number of the case at a level.

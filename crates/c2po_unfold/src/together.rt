@@ -249,6 +249,9 @@ impl Unfolding {
                 if let SetsIn::Drawn(here, draw) = &sets {
                     return self.joined_drawn(at, cases, e, *here, *draw, *op, bodies, room);
                 }
+                if sets.need_level(cases) {
+                    return self.each_split(at, cases, e, &Trail::End, cases.len() / 2, room);
+                }
                 self.each_joined(at, cases, *op, bodies, &sets, room)
             }
             Resolved::Counted(op, number, name, usage, set, body) => {
@@ -260,9 +263,12 @@ impl Unfolding {
                 };
                 let sets = self.sets_in(at, cases, bodies.set)?;
                 if let SetsIn::Drawn(_, draw) = &sets {
-                    if cases.len() > FEW {
+                    if !cases.may_multiply() {
                         return self.each_parted(at, cases, e, &Trail::End, *draw, room);
                     }
+                }
+                if sets.need_level(cases) {
+                    return self.each_split(at, cases, e, &Trail::End, cases.len() / 2, room);
                 }
                 self.each_counted(at, cases, *op, *number, bodies, &sets, room)
             }
@@ -435,11 +441,11 @@ impl Unfolding {
         if let Some(found) = apart {
             return Ok(found);
         }
-        let near = cases.len() <= FEW || is_near(at.depth, at.scope, bodies.set, NEAR);
+        let near = cases.may_multiply() || is_near(at.depth, at.scope, bodies.set, NEAR);
         if near && self.are_lone(at.depth, cases, here, draw)? {
             return self.joined_lone(at, cases, bodies, room);
         }
-        if cases.len() > FEW {
+        if !cases.may_multiply() {
             return self.each_parted(at, cases, e, &Trail::End, draw, room);
         }
         self.joined_led(at, cases, op, bodies, room)
@@ -500,7 +506,7 @@ impl Unfolding {
         if self.shared_count(set) > Some(1) && !bodies.is_used() {
             return self.same_bodies(at, cases, bodies, set, i, room);
         }
-        let few = cases.len() <= FEW;
+        let few = cases.may_multiply();
         match *set {
             Head::Held(stored) if few && is_followed(self.held_members(stored), i) => {
                 self.held_bodies(at, cases, bodies, stored, i, room)

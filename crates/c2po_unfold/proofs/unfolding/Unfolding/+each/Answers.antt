@@ -801,8 +801,8 @@ joined_drawn-returns-then-branch t c = λ m base env i p inside h set body here 
     subst (λ w. IfOk c.joined_lone.result (λ r. KnownFor m r i w)) (sym same)
     (c.joined_lone.ensures m c.args.op base env i p inside set body (c.in_ok-are_lone.ensures m base i p s inside here c.if-branch.true))
 
-pub joined_drawn-returns-then-len-gt-FEW : goal.joined_drawn-returns-then-len-gt-FEW
-joined_drawn-returns-then-len-gt-FEW t c = λ m base env i p inside h set body here same.
+pub joined_drawn-returns-then-not-may_multiply : goal.joined_drawn-returns-then-not-may_multiply
+joined_drawn-returns-then-not-may_multiply t c = λ m base env i p inside h set body here same.
     c.each_parted.ensures m base i p (resolved_value c.args.e.now env) inside (env, h, refl)
 
 pub joined_drawn-returns : goal.joined_drawn-returns
@@ -927,8 +927,8 @@ each_quantifier-returns-in-Drawn t c = λ m base env i p inside h.
     c.joined_drawn.ensures m base env i p inside h set (body_meets k u base scope env _ _ c.deref-in-Joined.ensures h.fits parts.1) sets
     (sym (ap (connected_all c.in-Joined.op) (bodies_by c.in-Joined.name env _ _ _ _ c.deref.ensures c.deref-in-Joined.ensures) ∙ sym (ap (λ r. resolved_value r env) c.in-Joined.is)))
 
-pub each_quantifier-returns-in_default-sets : goal.each_quantifier-returns-in_default-sets
-each_quantifier-returns-in_default-sets t c = λ m base env i p inside h.
+pub each_quantifier-returns-else-need_level : goal.each_quantifier-returns-else-need_level
+each_quantifier-returns-else-need_level t c = λ m base env i p inside h.
     let u = c.args.self.now in
     let scope = c.args.at.scope.now in
     let k = chosen m (path_of p) in
@@ -939,12 +939,20 @@ each_quantifier-returns-in_default-sets t c = λ m base env i p inside h.
     (c.each_joined.ensures m base env i p inside set (body_meets k u base scope env _ _ c.deref-in-Joined.ensures h.fits parts.1)
     (c.in_ok-sets-in-Joined.ensures m base env i p inside set))
 
-pub each_quantifier-returns-then-len-gt-FEW : goal.each_quantifier-returns-then-len-gt-FEW
-each_quantifier-returns-then-len-gt-FEW t c = λ m base env i p inside h.
+pub each_quantifier-returns-then-not-may_multiply : goal.each_quantifier-returns-then-not-may_multiply
+each_quantifier-returns-then-not-may_multiply t c = λ m base env i p inside h.
     c.each_parted.ensures m base i p (resolved_value c.args.e.now env) inside (env, h, refl)
 
-pub each_quantifier-returns-after-sets-4 : goal.each_quantifier-returns-after-sets-4
-each_quantifier-returns-after-sets-4 t c = λ m base env i p inside h.
+pub each_quantifier-returns-then-need_level : goal.each_quantifier-returns-then-need_level
+each_quantifier-returns-then-need_level t c = λ m base env i p inside h.
+    c.each_split.ensures m base i p (resolved_value c.args.e.now env) inside (env, h, refl)
+
+pub each_quantifier-returns-then-need_level-2 : goal.each_quantifier-returns-then-need_level-2
+each_quantifier-returns-then-need_level-2 t c = λ m base env i p inside h.
+    c.each_split-then-need_level-2.ensures m base i p (resolved_value c.args.e.now env) inside (env, h, refl)
+
+pub each_quantifier-returns-else-need_level-2 : goal.each_quantifier-returns-else-need_level-2
+each_quantifier-returns-else-need_level-2 t c = λ m base env i p inside h.
     let u = c.args.self.now in
     let scope = c.args.at.scope.now in
     let k = chosen m (path_of p) in
