@@ -278,6 +278,14 @@ def asked_of_all(first, levels, rest):
     return over([first] * levels + ['{%s}' % name for name in before] + rest, '@')
 
 
+def structs_of_parts(count):
+    """Structs of two structs each, all of which differ, a struct of one of these, and the set of all of the first."""
+    values = ['c%d:=u(%s,%d);\ne%d:=t(c%d,u(%s,%d));\n' % (
+        k, '!p' if k % 2 else 'p', k, k, k, '!q' if k % 3 else 'q', k + 500) for k in range(count)]
+    return '%sSTRUCT u: { a: bool; b: int; };\nSTRUCT t: { x: u; y: u; };\nSTRUCT h: { m: u; };\nDEFINE\n%ss:={%s};\n' % (
+        SIGNALS, ''.join(values), members(count, 'e#'))
+
+
 def in_braces(name, depth):
     """Sets of one member within one another, to a depth."""
     return '{' * depth + name + '}' * depth
@@ -588,6 +596,9 @@ TEXTS = [
            numbered(over(many_chains(2, 25, ways=3, twos=11), '@')), 'FTSPEC p;\n'),
     filled('asked-many', 'the same over one of 11 sets, eight over it, which holds 32 such sets', SIGNALS + 'DEFINE\n',
            numbered(over(many_chains(1, 8, ways=32, twos=10), '@')), 'FTSPEC p;\n'),
+    filled('drawn-parts', 'pairs of 64 structs around quantifiers over two structs that are written out, which hold parts of both',
+           structs_of_parts(64),
+           numbered('d#:=foreach(v:s)(foreach(w:s)(foreach(a:{h(v.x),h(w.y)})(foreach(b:{h(v.y),a})(b.m.a))));\n'), 'FTSPEC p;\n'),
     filled('parted-fields', 'quantifiers over fields of written structs in parts of other such structs, around 50 over a formula',
            PARTED, numbered(parted(7, 50)), 'FTSPEC p;\n'),
     filled('passed-booleans', '90 quantifiers over a field that is a set of one formula, within one over pairs of 181 structs',

@@ -14,7 +14,9 @@ use Rattle.c2po_unfold.specs.declared.scope.Member.{Member}
 use Rattle.c2po_unfold.specs.declared.scope.Scope.{Scope}
 use Rattle.c2po_unfold.specs.declared.unfolding.Unfolding.{Unfolding}
 use Rattle.c2po_unfold.specs.declared.values.Stored.{Stored}
+use Rattle.c2po_unfold.specs.declared.along.Trail.{Trail}
 use Rattle.c2po_unfold.specs.Ahead.{HoldsFor, RowsLead}
+use Rattle.c2po_unfold.specs.Along.{IsAlong}
 use Rattle.c2po_unfold.specs.Cases.{Case, HasReached, IsMember, IsReached, IsVaried, chosen, path_of}
 use Rattle.c2po_unfold.specs.Covering.{Mode}
 use Rattle.c2po_unfold.specs.Environment.{Env, fields_in, value_in}
@@ -69,6 +71,10 @@ OfChoice u choice paths m i v = (p : Path) × (slice_get paths i ≡ Some p) × 
 -- the value that rows have for the one that a case chooses
 abbrev pub OfFound : Unfolding → Choice → List Row → List Path → Mode → ℕ → Value → Type 0
 OfFound u choice rows paths m i v = (w : Value) × OfChoice u choice paths m i w × RowsLead u rows w v
+
+-- what a trail leads to from the value that a case chooses
+abbrev pub OfChosen : Unfolding → Choice → Trail → List Path → Mode → ℕ → Value → Type 0
+OfChosen u choice trail paths m i v = (w : Value) × (base : Env) × (h : OfChoice u choice paths m i w) × IsAlong (chosen m (path_of h.0)) u base trail w v
 
 -- a stored value represents a value, however what is known is meant
 abbrev pub HoldsIn : Unfolding → Mode → Stored → Value → Type 0

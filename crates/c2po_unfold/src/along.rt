@@ -19,7 +19,7 @@ ghost use Rattle.c2po_unfold.specs.Values.{Value, built, grouped, members, picke
 
 use crate::Unfolding;
 use crate::drawn::Told;
-use crate::each::{Each, Stop};
+use crate::each::{Each, Stop, add};
 use crate::fault::deeper;
 use crate::path::Cases;
 use crate::resolved::{Hint, Resolved};
@@ -223,7 +223,7 @@ impl Unfolding {
                 };
                 self.each_along(own, cases, expr, trail, room)
             }
-            Scope::Varied { choice, .. } => self.each_choice(at, cases, e, *choice, trail, room),
+            Scope::Varied { choice, .. } => self.each_choice(at.depth, cases, *choice, trail),
             Scope::Drawn {
                 set,
                 within,
@@ -288,31 +288,50 @@ impl Unfolding {
         self.merged(cases, like, others)
     }
 
-    /// What is known in each case of a part of a variable, of which this is listed.
-    #[cycle(each)]
+    /// What is known in each case of a part of the member that it chooses.
     fn each_choice(
         &self,
-        at: Site<'_>,
+        levels: u32,
         cases: Cases<'_>,
-        e: &Resolved,
         choice: Choice<'_>,
         trail: &Trail<'_>,
-        room: Room,
     ) -> Result<Each, Stop>
-        ensures { (m : Mode) (base env : Env) (i : ℕ) (p : CasePath) (v : Value)
+        ensures { (m : Mode) (base : Env) (i : ℕ) (p : CasePath) (v w : Value)
             → slice_get cases.entry.paths.now i ≡ Some p
-            → MeetsIn (chosen m (path_of p)) self.now base at.entry.scope.now env e.now
-            → IsVaried (chosen m (path_of p)) self.now choice.entry (resolved_value e.now env)
-            → IsAlong (chosen m (path_of p)) self.now base trail.now (resolved_value e.now env) v
-            → IfOk result (λ r. KnownFor m r i v) }
+            → IsVaried (chosen m (path_of p)) self.now choice.entry v
+            → IsAlong (chosen m (path_of p)) self.now base trail.now v w
+            → IfOk result (λ r. KnownFor m r i w) }
     {
         if let Trail::End = trail {
             return self.each_member(choice, cases);
         }
         match choice.agreed(cases.paths) {
-            Some(stored) => self.each_end(at.depth, stored, trail),
-            None => self.each_parted(at, cases, e, trail, choice.draw(), room),
+            Some(stored) => self.each_end(levels, stored, trail),
+            None => self.each_chosen(levels, cases, choice, trail),
         }
+    }
+
+    /// What is known in each case of a part of the stored value that it chooses.
+    fn each_chosen(
+        &self,
+        levels: u32,
+        cases: Cases<'_>,
+        choice: Choice<'_>,
+        trail: &Trail<'_>,
+    ) -> Result<Each, Stop>
+        ensures { (m : Mode) (base : Env) (i : ℕ) (p : CasePath) (v w : Value)
+            → slice_get cases.entry.paths.now i ≡ Some p
+            → IsVaried (chosen m (path_of p)) self.now choice.entry v
+            → IsAlong (chosen m (path_of p)) self.now base trail.now v w
+            → IfOk result (λ r. KnownFor m r i w) }
+    {
+        let mut all = Vec::with_capacity(self.alloc, cases.len())?;
+        for path in cases.paths {
+            let stored = choice.stored(path).ok_or(Stop::Alone)?;
+            let part = self.held_along(levels, stored, trail)?;
+            add(&mut all, self.held(part))?;
+        }
+        Ok(Each::Own(all))
     }
 
     /// What is known in each case of a part of the member with a number of a set.

@@ -247,7 +247,7 @@ impl Marks {
 impl<'a> Choice<'a> {
     /// The stored value that a case chooses, if it chooses one.
     #[inline(always)]
-    fn stored(self, path: &Path) -> Option<Stored>
+    pub(crate) fn stored(self, path: &Path) -> Option<Stored>
         ensures { (m : Mode) (u : Table) (v : Value)
             → IsVaried (chosen m (path_of path.now)) u self.entry v
             → IfSome result (λ s. Holds u s v) }

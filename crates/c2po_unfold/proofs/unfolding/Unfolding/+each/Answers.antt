@@ -616,17 +616,6 @@ each_part-returns t c = λ m base env i p v inside fits names along.
       subst (λ w. IsAlong k u base c.in-Field.next.now w v) (sym (picked_open es env x place own (λ y. fields_in (g.0 y)) f whole refl (sym found) at)) g.3,
     )
 
-pub each_choice-returns-in-End : goal.each_choice-returns-in-End
-each_choice-returns-in-End t c = λ m base env i p v inside h varied along.
-    let k = chosen m (path_of p) in
-    let same = subst (λ d. IsAlong k c.args.self.now base d (resolved_value c.args.e.now env) v) c.in-End.is along in
-    c.each_member.ensures m i p v inside (subst (IsVaried k c.args.self.now c.args.choice) same varied)
-
-pub each_choice-returns-in-Some : goal.each_choice-returns-in-Some
-each_choice-returns-in-Some t c = λ m base env i p v inside h varied along.
-    let w = resolved_value c.args.e.now env in
-    c.each_end.ensures m (chosen m (path_of p)) base i w v (c.in-Some.ensures m c.args.self.now i p w inside varied) along
-
 pub each_entry-returns-in-Some-true : goal.each_entry-returns-in-Some-true
 each_entry-returns-in-Some-true t c = λ m base env i p v inside h entry along.
     let k = chosen m (path_of p) in
@@ -647,15 +636,12 @@ each_entry-returns-in-Open t c = λ m base env i p v inside h entry along.
     c.each_along.ensures m base i p v inside
     (g.0, record { fits = g.1; resolved = g.2 }, subst (λ w. IsAlong k u base c.args.trail.now w v) g.3 along)
 
-pub each_choice-returns-in-None : goal.each_choice-returns-in-None
-each_choice-returns-in-None t c = λ m base env i p v inside h varied along. c.each_parted.ensures m base i p v inside (env, h, along)
-
 pub each_entry-returns-in-None : goal.each_entry-returns-in-None
 each_entry-returns-in-None t c = λ m base env i p v inside h entry along. c.each_parted.ensures m base i p v inside (env, h, along)
 
 pub each_entry-returns-in-Varied : goal.each_entry-returns-in-Varied
 each_entry-returns-in-Varied t c = λ m base env i p v inside h entry along.
-    c.each_choice.ensures m base env i p v inside h
+    c.each_choice.ensures m base i p (resolved_value c.args.e.now env) v inside
     (subst (λ s. IsEntry (chosen m (path_of p)) c.args.self.now base s (resolved_value c.args.e.now env)) c.in-Varied.is entry) along
 
 pub each_entry-returns-in-Some : goal.each_entry-returns-in-Some

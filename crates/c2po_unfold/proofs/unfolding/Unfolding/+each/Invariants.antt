@@ -160,9 +160,6 @@ decreases-each_field l = 30 * l.at.depth + 4
 abbrev pub decreases-each_item : goal.decreases-each_item
 decreases-each_item l = 30 * l.at.depth + 4
 
-abbrev pub decreases-each_choice : goal.decreases-each_choice
-decreases-each_choice l = 30 * l.at.depth + 5
-
 abbrev pub decreases-each_drawn : goal.decreases-each_drawn
 decreases-each_drawn l = 30 * l.at.depth + 5
 
