@@ -1,5 +1,6 @@
-# make try        runs r2u2, unproved, over SPEC and TRACE, by default those of the first example, within about a minute
-# make test       plays the cases, but those named (long), and the tests of the tools, unproved, in some minutes
+# make try        runs r2u2, unproved, over SPEC and TRACE, by default those of the first example; make unproved builds what it runs
+# make test       plays the cases, but those named (long), and runs the tests of the tools, in some minutes; what isn't proved
+#                 is tested unproved
 # make            proves and builds both programs into build/
 # make check      passes the whole gate: proofs, edits that must fail, cases; the programs and the library come into build/,
 #                 and the programs are tried on real files, pipes and terminals
@@ -32,7 +33,7 @@ VIM_FOLDERS = autoload compiler ftdetect ftplugin syntax
 # All lines of a script but those of cases whose names end in (long); an empty line ends a case.
 SHORT_CASES = /^case .*\(long\)$$/ { long = 1 } !long; /^$$/ { long = 0 }
 
-.PHONY: all try test check docs dist install uninstall built built-programs clean vscode $(PROGRAMS)
+.PHONY: all unproved try test check docs dist install uninstall built built-programs clean vscode $(PROGRAMS)
 .NOTPARALLEL:
 
 # As many proofs side by side as there are processors.
@@ -49,14 +50,18 @@ built-programs:
 	@missing=; for file in $(BUILT); do [ -f $$file ] || { missing=1; echo "install: no $$file" >&2; }; done; \
 	    [ -z "$$missing" ] || { echo 'install: nothing is installed. "make" proves and builds both programs, in 17 to 31 minutes' >&2; exit 1; }
 
-try:
-	@echo 'Unproved. The proved programs come by "make".'
-	@spec=$$(realpath -- '$(SPEC)') && trace=$$(realpath -- '$(TRACE)') && cd crates/r2u2 && rt try -- --source "$$spec" "$$trace"
+# Both programs without their proofs, built once for the same sources, in a minute or two.
+unproved:
+	@dev/unproved
+
+try: unproved
+	@build/unproved/r2u2 --source '$(SPEC)' '$(TRACE)'
 
 # Side by side: the tests as they go, and what the cases gave at the end. `rt try` runs the cases compiled with checks,
 # which takes longest, so the tests leave it the processor that it needs.
 test:
-	@echo 'Unproved. The gate is "make check".'
+	@echo 'The gate is "make check".'
+	@[ -x build/r2u2 ] && [ -x build/c2po ] || dev/unproved
 	@mkdir -p build
 	@(cd crates/worked_cases && awk '$(SHORT_CASES)' stdin | rt try --steps 1 --seconds 300) > build/cases.log 2>&1 & cases=$$!; \
 	    nice dev/test; tests=$$?; \
@@ -92,9 +97,11 @@ dist:
 install: built
 	install -d $(INTO)/bin $(INTO)/share/man/man1 $(INTO)/share/man/man5 $(SHARED)/tools/lib $(SHARED)/vscode $(BASH) $(ZSH) $(FISH) $(VIM_FOLDERS:%=$(VIM)/%) $(EMACS)
 	install -m 755 $(BUILT) $(INTO)/bin
-	install -m 755 $(TOOLS:%=tools/%) $(SHARED)/tools
+	install -m 755 tools/r2u2-tools $(SHARED)/tools
+	for tool in $(TOOLS); do ln -sf r2u2-tools $(SHARED)/tools/$$tool; done
 	cd tools && find lib -name '*.*' -type f ! -name '*.pyc' -exec install -D -m 644 '{}' '$(abspath $(SHARED))/tools/{}' ';'
 	for tool in $(TOOLS); do ln -sf ../share/r2u2/tools/$$tool $(INTO)/bin/r2u2-$$tool; done
+	ln -sf ../share/r2u2/tools/r2u2-tools $(INTO)/bin/r2u2-tools
 	install -m 644 $(NAMES:%=docs/man/%.1) $(INTO)/share/man/man1
 	install -m 644 docs/man/c2po.5 $(INTO)/share/man/man5
 	install -m 644 completions/r2u2.bash $(BASH)/r2u2
@@ -110,7 +117,7 @@ install: built
 	sed "s/\"version\": \"0.0.0\"/\"version\": \"$(VERSION)\"/" editors/vscode/package.json > $(SHARED)/vscode/package.json
 
 uninstall:
-	rm -f $(NAMES:%=$(INTO)/bin/%) $(NAMES:%=$(INTO)/share/man/man1/%.1) $(INTO)/share/man/man5/c2po.5 $(NAMES:%=$(BASH)/%) $(NAMES:%=$(FISH)/%.fish)
+	rm -f $(NAMES:%=$(INTO)/bin/%) $(INTO)/bin/r2u2-tools $(NAMES:%=$(INTO)/share/man/man1/%.1) $(INTO)/share/man/man5/c2po.5 $(NAMES:%=$(BASH)/%) $(NAMES:%=$(FISH)/%.fish)
 	rm -f $(ZSH)/_r2u2 $(VIM_FOLDERS:%=$(VIM)/%/c2po.vim) $(EMACS)/c2po-mode.el
 	rm -rf $(SHARED)
 

@@ -9,11 +9,12 @@
 
 Texts are compiled as they are, with --table, with --simplify, with a header, and run by r2u2 --source over an empty trace,
 so up to the first row. Programs are run by r2u2 and written again by c2po --upgrade and, where the text of one fits, --show. A line has the seconds of
-user time, the peak of memory and the code of a run. A run is past the bounds above 5 seconds, above 256 MB, of a program
-768 MB, where it needs more than 2 MiB of stack, and where it doesn't end within the limit (--seconds, of the processor's
-time). One that is refused at once shows nothing, and isn't counted.
+user time, the peak of memory and the code of a run. The bounds are 256 MB for a text and 768 MB for a
+program, 2 MiB of stack, 1 second for a text as teams write it (spacecraft, valves), and 5 seconds for a program; the time
+of other texts has no bound, but a run is stopped after --seconds of the processor. A run that is refused at once shows
+nothing, and isn't counted.
 
-The status is 0 where all are within the bounds, 1 where one is past them or isn't counted.
+The status is 0 if all runs are within the bounds, and 1 if one is past them, is stopped or isn't counted.
 """
 import argparse
 import collections
@@ -28,14 +29,18 @@ import hostile_programs
 import hostile_texts
 from measure import measured
 
-MOST_SECONDS, MOST_FOR_TEXTS, MOST_FOR_PROGRAMS = 5, 256, 768
+MOST_FOR_TEXTS, MOST_FOR_PROGRAMS = 256, 768
+# The seconds of a program, and of texts as teams write them.
+SECONDS_OF_PROGRAMS = 5
+SECONDS_OF_TEXTS = {'spacecraft': 1, 'valves': 1}
 STACK = 2048
 # Beyond this a run is stopped, so that the machine stays usable; it is above both bounds.
 ROOM = 8 << 30
 DONE, REFUSED, OUT_OF_MEMORY = 0, (1, 2, 3, 4, 5), 8
 AT_ONCE = 0.05
 
-Run = collections.namedtuple('Run', 'words most')
+# The words of a run, the most MB, and the most seconds or none.
+Run = collections.namedtuple('Run', 'words most seconds')
 
 
 def limited(seconds, stack):
@@ -52,15 +57,15 @@ def taken_by(words, seconds, stack=STACK):
     return measured(words, preexec_fn=limited(seconds, stack), **quiet)
 
 
-def judged(taken, most):
-    """What is to be said of a run, if anything."""
+def judged(taken, run):
+    """Returns what is wrong with a run, or an empty text."""
     if taken.status in REFUSED and taken.user < AT_ONCE:
         return 'REFUSED AT ONCE'
     if taken.status == 128 + signal.SIGXCPU:
         return 'PAST THE LIMIT OF TIME'
     if taken.status not in (DONE, *REFUSED, OUT_OF_MEMORY):
         return 'ENDED BY A SIGNAL'
-    past = [what for what, over in [('TIME', taken.user > MOST_SECONDS), ('MEMORY', taken.peak > most)] if over]
+    past = [what for what, over in [('TIME', run.seconds and taken.user > run.seconds), ('MEMORY', taken.peak > run.most)] if over]
     return 'PAST ' + ' AND '.join(past) if past else ''
 
 
@@ -87,22 +92,23 @@ def written(folder, name, content):
 def runs_of_text(asked, folder, path):
     """The runs over a text; the header names what the first signals of all texts are named, and is refused where others are asked."""
     made = [asked.compiler, '-o', os.path.join(folder, 'made')]
-    runs = [Run([*made, path], MOST_FOR_TEXTS)]
+    words = [[*made, path]]
     if not asked.plain:
         empty = written(folder, 'empty', '')
-        runs += [Run([*made, option, path], MOST_FOR_TEXTS) for option in ('--table', '--simplify')]
-        runs.append(Run([*made, '--header', written(folder, 'columns', '# p,q,x\n'), path], MOST_FOR_TEXTS))
-        runs.append(Run([asked.monitor, '--source', path, empty], MOST_FOR_TEXTS))
-    return runs
+        words += [[*made, option, path] for option in ('--table', '--simplify')]
+        words.append([*made, '--header', written(folder, 'columns', '# p,q,x\n'), path])
+        words.append([asked.monitor, '--source', path, empty])
+    name = os.path.basename(path).removesuffix('.c2po')
+    return [Run(each, MOST_FOR_TEXTS, SECONDS_OF_TEXTS.get(name)) for each in words]
 
 
 def runs_of_program(asked, folder, it, path):
     trace = written(folder, 'trace', it.trace)
-    runs = [Run([asked.monitor, *it.words, path, trace], MOST_FOR_PROGRAMS)]
+    runs = [Run([asked.monitor, *it.words, path, trace], MOST_FOR_PROGRAMS, SECONDS_OF_PROGRAMS)]
     if not asked.plain and not it.words:
         made = [asked.compiler, '-o', os.path.join(folder, 'made')]
         options = ('--upgrade', '--show') if it.shown else ('--upgrade',)
-        runs += [Run([*made, option, path], MOST_FOR_PROGRAMS) for option in options]
+        runs += [Run([*made, option, path], MOST_FOR_PROGRAMS, SECONDS_OF_PROGRAMS) for option in options]
     return runs
 
 
@@ -125,9 +131,10 @@ def shown_words(words):
 def show(asked, name, runs):
     """Measures and prints runs, and says whether one was past a bound."""
     past = False
-    for words, most in runs:
+    for run in runs:
+        words = run.words
         taken = taken_by(words, asked.seconds)
-        said = judged(taken, most)
+        said = judged(taken, run)
         past = past or bool(said)
         stack = ' %6d' % least_stack(words, asked.seconds) if asked.stack else ''
         print('%-17s %-18s %8.2f %8.1f %6d%s  %s' % (

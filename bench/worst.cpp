@@ -1,13 +1,14 @@
 // Finds a row that takes many steps, and prints a trace that ends with it.
 //
-//     worst PROGRAM TRIES     of a search over logs
-//     worst PROGRAM TRACE     of the rows of a trace
+//     worst PROGRAM TRIES steps|reports     searches logs
+//     worst PROGRAM TRACE steps|reports     searches the rows of a trace
 //
-// On the error output it prints the steps of this row, the reports, and the steps to find these.
+// With `steps` the row with the most steps of instructions, whatever it reports; with `reports` the row whose steps and reports
+// take most together, where a report counts as three steps. On the error output it prints the steps of this row, the reports,
+// and the steps to find these.
 //
 // A log gives each column segments of a length that the program's windows suggest, in which it is true, false or alternates.
-// The search changes one column's segments at a time and keeps what takes more, a report counted as much as three steps more.
-// It is the same each time.
+// The search changes one column's segments at a time and keeps a log that takes more. It is the same each time.
 #define PLAIN_IN_MEMORY
 #include "plain.cpp"
 #include "steps.hpp"
@@ -36,35 +37,41 @@ struct Segment {
 
 using Column = std::vector<Segment>;
 
+enum class Goal { Steps, Reports };
+
 struct Worst {
     uint64_t row = 0;
     Cost cost;
 
-    uint64_t weight() const { return cost.steps + 3 * cost.reports; }
+    uint64_t weight(Goal goal) const {
+        return goal == Goal::Steps ? cost.steps - cost.telling : cost.steps + 3 * cost.reports;
+    }
 };
 
 // The worst row but the first, which looks at all outputs once more.
 struct Finder {
     Counter counter;
+    Goal goal;
     Worst found;
 
-    explicit Finder(const Program &program) : counter(program) {}
+    Finder(const Program &program, Goal it) : counter(program), goal(it) {}
 
     void take(const std::vector<int64_t> &numbers) {
         Worst one{counter.rows, counter.take(numbers)};
-        if (one.row > 0 && one.weight() > found.weight()) found = one;
+        if (one.row > 0 && one.weight(goal) > found.weight(goal)) found = one;
     }
 };
 
 struct Search {
     const Program &program;
+    Goal goal;
     std::mt19937_64 dice{7};
     std::vector<uint64_t> lengths;
     std::vector<int64_t> low, high; // the numbers of each column where it is false and true
     std::vector<uint32_t> read;     // the columns that are read
     uint64_t most_rows = 0;
 
-    explicit Search(const Program &it) : program(it), low(it.width, 0), high(it.width, 1) {
+    Search(const Program &it, Goal sought) : program(it), goal(sought), low(it.width, 0), high(it.width, 1) {
         std::set<uint64_t> found{1, 2, 3};
         uint64_t reach = 0;
         for (const std::vector<Instruction> *part : {&it.ft, &it.pt}) {
@@ -136,7 +143,7 @@ struct Search {
     }
 
     Worst worst(const std::vector<Column> &log) const {
-        Finder finder(program);
+        Finder finder(program, goal);
         run(log, most_rows, [&](const std::vector<int64_t> &numbers, uint64_t) { finder.take(numbers); });
         return finder.found;
     }
@@ -172,25 +179,25 @@ void print_cost(const Cost &cost) {
                  (unsigned long long)cost.telling);
 }
 
-void search_logs(const Program &program, long tries) {
-    Search search(program);
+void search_logs(const Program &program, Goal goal, long tries) {
+    Search search(program, goal);
     std::vector<Column> best = search.log();
     Worst most = search.worst(best);
     for (long k = 1; k < tries; k++) {
         std::vector<Column> log = k < tries / 4 ? search.log() : best;
         for (uint64_t n = search.number(3) + 1; k >= tries / 4 && n > 0; n--) search.change(log);
         Worst found = search.worst(log);
-        if (found.weight() >= most.weight()) most = found, best = log;
+        if (found.weight(goal) >= most.weight(goal)) most = found, best = log;
     }
     search.run(best, most.row + 1, [](const std::vector<int64_t> &numbers, uint64_t) { print_row(numbers); });
     print_cost(most.cost);
 }
 
-void search_trace(const Program &program, const char *path) {
+void search_trace(const Program &program, Goal goal, const char *path) {
     std::ifstream file(path);
     std::string line;
     std::vector<std::vector<int64_t>> rows;
-    Finder finder(program);
+    Finder finder(program, goal);
     for (std::vector<int64_t> fields(program.width); std::getline(file, line);)
         if (read_row(line.data(), line.data() + line.size(), fields)) finder.take(fields), rows.push_back(fields);
     for (uint64_t k = 0; k <= finder.found.row && k < rows.size(); k++) print_row(rows[k]);
@@ -200,9 +207,11 @@ void search_trace(const Program &program, const char *path) {
 }
 
 int main(int count, char **words) {
-    if (count != 3) stop("usage:", "worst PROGRAM TRIES|TRACE");
+    std::string sought = count == 4 ? words[3] : "";
+    if (sought != "steps" && sought != "reports") stop("usage:", "worst PROGRAM TRIES|TRACE steps|reports");
+    Goal goal = sought == "steps" ? Goal::Steps : Goal::Reports;
     Program program = read_program(words[1]);
     long tries = std::atol(words[2]);
-    if (tries > 0) search_logs(program, tries);
-    else search_trace(program, words[2]);
+    if (tries > 0) search_logs(program, goal, tries);
+    else search_trace(program, goal, words[2]);
 }

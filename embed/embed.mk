@@ -16,14 +16,17 @@ EMBED = build/$(TARGET)
 TRIES = $(EMBED)/tries
 GRANT = examples/embed/grant.bin
 EXPECTED = examples/embed/grant.expected
-WARNED = -std=c11 -Wall -Wextra -Iinclude -Iembed
-KIT = $(dir $(realpath $(shell command -v rt)))..
+WARNED = -std=c11 -Wall -Wextra -Iinclude
+ARENA = embed/src/arena.c
+HEADERS = include/r2u2.h include/r2u2_port.h include/r2u2_checked.h include/r2u2_kept.h include/r2u2.hpp
+SOURCES = embed/src/arena.c embed/src/memory.c embed/src/heap.c
 
 ifeq ($(TARGET),x86_64)
 STRICT = -fsanitize=address,undefined -fno-sanitize-recover=all -g
 TARGET_CC = $(CC)
 TARGET_LINK = $(CC)
 TARGET_AR = $(AR)
+TARGET_OBJCOPY = objcopy
 TARGET_NM = nm
 TARGET_READELF = readelf
 else
@@ -31,10 +34,14 @@ RT_TARGET = --target $(TARGET)-unknown-linux-gnu
 TARGET_LINK = $(TARGET)-linux-gnu-gcc
 TARGET_CC = $(TARGET_LINK) -static
 TARGET_AR = $(TARGET)-linux-gnu-ar
+TARGET_OBJCOPY = $(TARGET)-linux-gnu-objcopy
 TARGET_NM = $(TARGET)-linux-gnu-nm
 TARGET_READELF = $(TARGET)-linux-gnu-readelf
 RUN = qemu-$(TARGET)
 endif
+
+# The kit's names of the allocator, and ours.
+PREFIXED = $(foreach name,alloc realloc dealloc,--redefine-sym rattle_$(name)=r2u2_$(name))
 
 .PHONY: embed check-embed measure-stack python wheel built-embed install-embed uninstall-embed deb
 .PHONY: $(addprefix check-,installed misra symbols misuse arena bytes flight bare grants stack frameworks frameworks-cpp cpp rust python)
@@ -42,19 +49,18 @@ endif
 embed:
 	@mkdir -p $(EMBED)
 ifdef LIBRARY
-	cp $(LIBRARY) $(EMBED)/libr2u2.a
+	$(TARGET_OBJCOPY) $(PREFIXED) $(LIBRARY) $(EMBED)/libr2u2.a
 else
 	cd crates/r2u2_c && rt lib $(RT_TARGET) > ../../$(EMBED)/lib.log 2>&1 || { cat ../../$(EMBED)/lib.log; exit 1; }
-	cp crates/r2u2_c/out/libr2u2_c.a $(EMBED)/libr2u2.a
+	$(TARGET_OBJCOPY) $(PREFIXED) crates/r2u2_c/out/libr2u2_c.a $(EMBED)/libr2u2.a
 endif
-ifeq ($(TARGET),x86_64)
-	cp $(KIT)/c/liblibc_c.a $(EMBED)/libr2u2_heap.a
-else
-	$(TARGET_CC) $(WARNED) -O2 -c embed/heap.c -o $(EMBED)/heap.o
+	$(TARGET_CC) $(WARNED) -O2 -fPIC -c embed/src/heap.c -o $(EMBED)/heap.o
 	rm -f $(EMBED)/libr2u2_heap.a
 	$(TARGET_AR) rcs $(EMBED)/libr2u2_heap.a $(EMBED)/heap.o
-endif
-	cp include/r2u2.h include/r2u2_alloc.h embed/r2u2_checked.h embed/r2u2_kept.h embed/r2u2_text.h embed/arena.h embed/arena.c embed/memory.c $(EMBED)
+	$(TARGET_CC) $(WARNED) -O2 -fPIC -c $(ARENA) -o $(EMBED)/arena.o
+	rm -f $(EMBED)/libr2u2_arena.a
+	$(TARGET_AR) rcs $(EMBED)/libr2u2_arena.a $(EMBED)/arena.o
+	cp $(HEADERS) $(SOURCES) $(EMBED)
 
 $(EMBED)/libr2u2.a:
 	$(MAKE) embed
@@ -84,7 +90,7 @@ $(TRIES):
 	@mkdir -p $@
 
 # The library asks for these names alone, has no data that is written, and links at any address.
-ASKED = memcpy memmove memset rattle_alloc rattle_dealloc rattle_realloc
+ASKED = memcpy memmove memset r2u2_alloc r2u2_dealloc r2u2_realloc
 
 check-symbols: | $(TRIES)
 	$(TARGET_NM) -u $(EMBED)/libr2u2.a | awk '$$1 == "U" { print $$2 }' | sort -u > $(TRIES)/symbols
@@ -95,29 +101,32 @@ check-symbols: | $(TRIES)
 
 # What flies keeps the required rules of MISRA C:2012, where there is cppcheck.
 check-misra:
-	embed/misra embed/arena.c embed/memory.c embed/heap.c embed/r2u2_checked.h embed/r2u2_kept.h embed/r2u2_text.h
+	embed/tests/misra $(SOURCES) $(filter %.h,$(HEADERS))
 
 check-misuse: | $(TRIES)
-	$(TARGET_CC) $(WARNED) -O1 $(STRICT) -o $(TRIES)/misuse embed/misuse.c $(EMBED)/libr2u2.a -lpthread
+	$(TARGET_CC) $(WARNED) -O1 $(STRICT) -o $(TRIES)/misuse embed/tests/misuse.c $(EMBED)/libr2u2.a -lpthread
 	@$(RUN) $(TRIES)/misuse $(GRANT) > $(TRIES)/misuse.out; status=$$?; cat $(TRIES)/misuse.out; exit $$status
 
 check-arena: | $(TRIES)
-	$(TARGET_CC) $(WARNED) -O1 $(STRICT) -o $(TRIES)/arena embed/arena_test.c embed/arena.c $(EMBED)/libr2u2.a
+	$(TARGET_CC) $(WARNED) -O1 $(STRICT) -o $(TRIES)/arena embed/tests/arena_test.c $(ARENA) $(EMBED)/libr2u2.a
 	$(RUN) $(TRIES)/arena $(GRANT)
+	@if [ -z '$(RUN)' ] && echo 'int main(void) { return 0; }' | $(TARGET_CC) -m32 -x c - -o $(TRIES)/arena32 2> /dev/null; then \
+	  $(TARGET_CC) -m32 $(WARNED) -O1 -DWITHOUT_LIBRARY -o $(TRIES)/arena32 embed/tests/arena_test.c $(ARENA) && $(TRIES)/arena32; \
+	else echo 'check-embed: no 32-bit library of C, so the arena on 32 bits is passed over'; fi
 
 check-bytes: | $(TRIES)
-	$(TARGET_CC) $(WARNED) -O1 -o $(TRIES)/bytes embed/bytes.c $(EMBED)/libr2u2.a
+	$(TARGET_CC) $(WARNED) -O1 -o $(TRIES)/bytes embed/tests/bytes.c $(EMBED)/libr2u2.a
 	$(RUN) $(TRIES)/bytes $(GRANT)
-	@if command -v python3 > /dev/null; then programs=$$(embed/programs $(TRIES)/programs) && $(RUN) $(TRIES)/bytes $$programs; fi
+	@if command -v python3 > /dev/null; then programs=$$(embed/tests/programs $(TRIES)/programs) && $(RUN) $(TRIES)/bytes $$programs; fi
 
 # The part that flies, linked as one object with all that it needs, asks for these names and no others; and the map of the
 # whole program has no malloc.
 check-flight: | $(TRIES)
 	embed/constant grant_program $(GRANT) > $(TRIES)/grant_program.h
-	$(TARGET_CC) $(WARNED) -I$(TRIES) -O2 -ffreestanding -nostdlib -r -o $(TRIES)/flight.o embed/flight/flight.c embed/arena.c $(EMBED)/libr2u2.a -lgcc
+	$(TARGET_CC) $(WARNED) -I$(TRIES) -O2 -ffreestanding -nostdlib -r -o $(TRIES)/flight.o embed/flight/flight.c $(ARENA) $(EMBED)/libr2u2.a -lgcc
 	$(TARGET_NM) -u $(TRIES)/flight.o | awk 'NF { print $$2 }' | sort > $(TRIES)/flight.asks
 	printf '%s\n' memcpy memmove memset | cmp - $(TRIES)/flight.asks
-	$(TARGET_CC) $(WARNED) -O2 -ffreestanding -fno-builtin -nostdlib -r -o $(TRIES)/alone.o embed/memory.c $(TRIES)/flight.o
+	$(TARGET_CC) $(WARNED) -O2 -ffreestanding -fno-builtin -nostdlib -r -o $(TRIES)/alone.o embed/src/memory.c $(TRIES)/flight.o
 	! $(TARGET_NM) -u $(TRIES)/alone.o | grep .
 	$(TARGET_CC) $(WARNED) -Iembed/flight -O2 $(if $(RUN),,-Wl$(comma)-Map=$(TRIES)/flight.map) -o $(TRIES)/flight embed/flight/ground.c $(TRIES)/flight.o
 	@[ -n '$(RUN)' ] || { test -s $(TRIES)/flight.map && ! grep -wE 'malloc|calloc|realloc|free|printf' $(TRIES)/flight.map; }
@@ -127,16 +136,16 @@ check-flight: | $(TRIES)
 comma = ,
 
 check-stack: | $(TRIES)
-	$(TARGET_CC) $(WARNED) -O2 $(if $(RUN),,-Wl$(comma)-z$(comma)now) -o $(TRIES)/stack embed/stack.c $(EMBED)/libr2u2.a $(EMBED)/libr2u2_heap.a
+	$(TARGET_CC) $(WARNED) -O2 $(if $(RUN),,-Wl$(comma)-z$(comma)now) -o $(TRIES)/stack embed/tests/stack.c $(EMBED)/libr2u2.a $(EMBED)/libr2u2_heap.a
 	$(RUN) $(TRIES)/stack $(GRANT)
 
 # The same over all programs of examples/ and bench/, for the table of docs/reference/c-interface.md.
 measure-stack: check-stack
-	$(RUN) $(TRIES)/stack $(GRANT) $$(embed/programs $(TRIES)/programs)
+	$(RUN) $(TRIES)/stack $(GRANT) $$(embed/tests/programs $(TRIES)/programs)
 
 check-grants:
 	$(MAKE) -C examples/embed clean check CC='$(TARGET_CC)' RUN='$(RUN)' LIBRARY=$(abspath $(EMBED)/libr2u2.a) HEAP=$(abspath $(EMBED)/libr2u2_heap.a)
-	@if command -v python3 > /dev/null; then embed/workloads $(RUN) examples/embed/grants; fi
+	@if command -v python3 > /dev/null; then embed/tests/workloads $(RUN) examples/embed/grants; fi
 
 # The part that flies without an operating system and a C library, on a machine that qemu-system emulates. Some versions
 # of it print what is written by semihosting on the error output.
@@ -146,14 +155,15 @@ BARE_LINK = -T embed/bare/bare.ld -Wl,--build-id=none,--no-warn-rwx-segments
 check-bare: | $(TRIES)
 	@if command -v qemu-system-$(TARGET) > /dev/null; then set -e; \
 	  $(TARGET_LINK) $(BARE) $(BARE_LINK) -o $(TRIES)/bare embed/bare/start.S embed/bare/ground.c embed/flight/flight.c \
-	    embed/arena.c embed/memory.c $(EMBED)/libr2u2.a -lgcc; \
+	    $(ARENA) embed/src/memory.c $(EMBED)/libr2u2.a -lgcc; \
 	  timeout 60 qemu-system-$(TARGET) -M virt -cpu cortex-a53 -nographic -nic none -semihosting -kernel $(TRIES)/bare \
 	    < /dev/null 2>&1 | tr -d '\r' | cmp - $(EXPECTED); \
 	else echo 'check-embed: no qemu-system-$(TARGET), so bare $(TARGET) is passed over'; fi
 
-# The examples for flight frameworks, over stand-ins for the calls that they make.
+# The examples for flight frameworks, over stand-ins for the calls that they make. level.bin is the program of
+# `INPUT level: int; FTSPEC high: level < 5;`.
 FRAMEWORKS = $(WARNED) -D_POSIX_C_SOURCE=200809L -Iexamples/embed/stubs -I$(TRIES)
-STATIC = embed/arena.c $(EMBED)/libr2u2.a
+STATIC = $(ARENA) $(EMBED)/libr2u2.a
 
 check-frameworks: | $(TRIES)
 	embed/constant grant_program $(GRANT) > $(TRIES)/grant_program.h
@@ -162,7 +172,7 @@ check-frameworks: | $(TRIES)
 	$(TARGET_CC) $(FRAMEWORKS) -o $(TRIES)/zephyr examples/embed/zephyr/watch_thread.c $(STATIC)
 	@set -e; for name in cfs freertos zephyr; do $(RUN) $(TRIES)/$$name | cmp - examples/embed/$$name/expected; done
 
-FRAMEWORKS_CPP = -Wall -Wextra -Iinclude -Iembed -Iembed/cpp -Iexamples/embed/stubs -I$(TRIES)
+FRAMEWORKS_CPP = -Wall -Wextra -Iinclude -Iexamples/embed/stubs -I$(TRIES)
 HEAP = $(EMBED)/libr2u2.a $(EMBED)/libr2u2_heap.a
 
 check-frameworks-cpp: check-frameworks
@@ -171,25 +181,32 @@ check-frameworks-cpp: check-frameworks
 	  $(CXX) -std=c++17 $(FRAMEWORKS_CPP) -o $(TRIES)/ros2 examples/embed/ros2/watch_node.cpp $(HEAP); \
 	  $(TRIES)/fprime | cmp - examples/embed/fprime/expected; \
 	  $(TRIES)/ros2 $(GRANT) | cmp - examples/embed/ros2/expected; \
+	  $(TRIES)/ros2 examples/embed/level.bin | cmp - examples/embed/ros2/expected_level; \
+	  ! $(TRIES)/ros2 examples/embed/grants.c 2> $(TRIES)/ros2.log && grep -q 'no monitor: magic' $(TRIES)/ros2.log; \
 	else echo 'check-embed: no compiler of C++, so the examples for F Prime and ROS 2 are passed over'; fi
+
+STRICT_CPP = -std=c++11 -Wall -Wextra -Wshadow -Wold-style-cast -Wconversion -Werror
 
 check-cpp: | $(TRIES)
 	@if command -v $(firstword $(CXX)) > /dev/null; then set -e; \
-	  $(CXX) -std=c++11 -Wall -Wextra $(STRICT) -Iinclude -Iembed -o $(TRIES)/grants_cpp embed/cpp/grants.cpp $(EMBED)/libr2u2.a $(EMBED)/libr2u2_heap.a; \
+	  $(CXX) $(STRICT_CPP) $(STRICT) -Iinclude -o $(TRIES)/grants_cpp embed/tests/grants.cpp $(EMBED)/libr2u2.a $(EMBED)/libr2u2_heap.a; \
 	  $(TRIES)/grants_cpp $(GRANT) > $(TRIES)/cpp.out; cmp $(TRIES)/cpp.out $(EXPECTED); \
-	  $(CXX) -std=c++11 -fno-exceptions -fno-rtti -Wall -Wextra -Iinclude -Iembed -fsyntax-only -x c++ embed/cpp/r2u2.hpp 2> $(TRIES)/cpp.log || \
-	    { cat $(TRIES)/cpp.log; exit 1; }; \
+	  for header in $(notdir $(HEADERS)); do echo "#include \"$$header\"" | \
+	    $(CXX) $(STRICT_CPP) -fno-exceptions -fno-rtti -Iinclude -fsyntax-only -x c++ -; done; \
 	else echo 'check-embed: no compiler of C++, so its example is passed over'; fi
+
+CARGO = R2U2_LIBRARIES=$(abspath $(EMBED)) R2U2_PROGRAM=$(abspath $(GRANT)) cargo
+CRATE = --quiet --offline --manifest-path embed/rust/Cargo.toml --target-dir $(TRIES)/rust
 
 check-rust: | $(TRIES)
 	@if command -v cargo > /dev/null; then set -e; \
-	  R2U2_LIBRARIES=$(abspath $(EMBED)) cargo run --quiet --offline --manifest-path embed/rust/Cargo.toml --target-dir $(TRIES)/rust -- $(GRANT) > $(TRIES)/rust.out; \
-	  cmp $(TRIES)/rust.out $(EXPECTED); \
-	  R2U2_LIBRARIES=$(abspath $(EMBED)) R2U2_PROGRAM=$(abspath $(GRANT)) cargo test --quiet --offline --manifest-path embed/rust/Cargo.toml \
-	    --target-dir $(TRIES)/rust > $(TRIES)/rust.log 2>&1 || { cat $(TRIES)/rust.log; exit 1; }; \
-	  if cargo clippy --version > /dev/null 2>&1; then \
-	    R2U2_LIBRARIES=$(abspath $(EMBED)) cargo clippy --quiet --offline --manifest-path embed/rust/Cargo.toml --target-dir $(TRIES)/rust \
-	      --lib -- -D warnings -W clippy::pedantic; fi; \
+	  for features in '' arena; do \
+	    $(CARGO) run $(CRATE) --features "$$features" -- $(GRANT) > $(TRIES)/rust.out; \
+	    cmp $(TRIES)/rust.out $(EXPECTED); \
+	    $(CARGO) test $(CRATE) --features "$$features" > $(TRIES)/rust.log 2>&1 || { cat $(TRIES)/rust.log; exit 1; }; \
+	    if cargo clippy --version > /dev/null 2>&1; then \
+	      $(CARGO) clippy $(CRATE) --features "$$features" --lib -- -D warnings -W clippy::pedantic; fi; \
+	  done; \
 	else echo 'check-embed: no cargo, so the example in Rust is passed over'; fi
 
 SHARED_OBJECT = build/libr2u2.so
@@ -199,24 +216,39 @@ python: $(SHARED_OBJECT)
 $(SHARED_OBJECT): $(EMBED)/libr2u2.a
 	$(CC) -shared -Wl,--whole-archive $(EMBED)/libr2u2.a -Wl,--no-whole-archive $(EMBED)/libr2u2_heap.a -o $@
 
-# For pip: the module with its library.
+# For pip: the module with its library, by setuptools. The same files give the same wheel.
+WHEEL_PYTHON = $(firstword $(foreach python,python3 /usr/bin/python3,$(shell $(python) -c 'import setuptools, wheel' 2>/dev/null && echo $(python))))
+WHEEL_INTO = build
+
 wheel: python
-	@python3 embed/python/wheel $(SHARED_OBJECT) $(VERSION) build
+	@[ -n '$(WHEEL_PYTHON)' ] || { echo 'wheel: no setuptools: apt-get install python3-setuptools python3-wheel' >&2; exit 1; }
+	@rm -rf build/wheel && cp -R embed/python build/wheel && cp $(SHARED_OBJECT) build/wheel/r2u2
+	@sed 's/"0.0.0"/"$(VERSION)"/' embed/python/pyproject.toml > build/wheel/pyproject.toml
+	@cd build/wheel && SOURCE_DATE_EPOCH=1577836800 $(WHEEL_PYTHON) -c \
+	  "import setuptools.build_meta as it; print('$(WHEEL_INTO)/' + it.build_wheel('$(abspath $(WHEEL_INTO))'))" > build.log 2>&1 \
+	  || { cat build.log; exit 1; }
+	@tail -n 1 build/wheel/build.log
 
 check-python: python | $(TRIES)
-	@if command -v python3 > /dev/null; then set -e; \
-	  R2U2_LIBRARY=$(abspath build/libr2u2.so) PYTHONDONTWRITEBYTECODE=1 python3 embed/python/grants.py $(GRANT) > $(TRIES)/python.out; \
+	@if command -v python3 > /dev/null; then set -e; export PYTHONDONTWRITEBYTECODE=1; \
+	  PYTHONPATH=embed/python R2U2_LIBRARY=$(abspath build/libr2u2.so) python3 embed/tests/grants.py $(GRANT) > $(TRIES)/python.out; \
 	  cmp $(TRIES)/python.out $(EXPECTED); \
-	  rm -rf $(TRIES)/wheel && mkdir $(TRIES)/wheel; \
-	  wheel=$$(python3 embed/python/wheel $(SHARED_OBJECT) $(VERSION) $(TRIES)/wheel); \
-	  (cd $(TRIES)/wheel && python3 -m zipfile -e $$(basename $$wheel) .); \
-	  PYTHONPATH=$(TRIES)/wheel PYTHONDONTWRITEBYTECODE=1 python3 -c 'import r2u2; assert r2u2.version() > 0'; \
+	  python=$$(for it in python3 /usr/bin/python3; do if $$it -c 'import numpy' 2> /dev/null; then echo $$it; break; fi; done); \
+	  R2U2_LIBRARY=$(abspath build/libr2u2.so) $${python:-python3} embed/tests/test_module.py 2> $(TRIES)/module.log || { cat $(TRIES)/module.log; exit 1; }; \
+	  tail -n 1 $(TRIES)/module.log; \
+	  if [ -n '$(WHEEL_PYTHON)' ]; then \
+	    rm -rf $(TRIES)/wheel && mkdir $(TRIES)/wheel; \
+	    $(MAKE) -s wheel WHEEL_INTO=$(TRIES)/wheel; \
+	    (cd $(TRIES)/wheel && python3 -m zipfile -e *-py3-none-linux_*.whl .); \
+	    PYTHONPATH=$(TRIES)/wheel python3 -c 'import r2u2; assert r2u2.version() > 0'; \
+	  else echo 'check-embed: no setuptools, so the wheel is passed over'; fi; \
 	else echo 'check-embed: no python3, so the example in Python is passed over'; fi
 
-INSTALLED_LIBRARIES = libr2u2.a libr2u2_heap.a
+INSTALLED_LIBRARIES = libr2u2.a libr2u2_heap.a libr2u2_arena.a
 MANUALS = r2u2 r2u2_arena r2u2_wrappers
-INSTALLED_HEADERS = include/r2u2.h include/r2u2_alloc.h embed/r2u2_checked.h embed/r2u2_kept.h embed/r2u2_text.h
-INSTALLED_SOURCES = embed/arena.c embed/arena.h embed/memory.c embed/constant embed/cpp/r2u2.hpp embed/python/r2u2.py examples/embed/grants.c
+INSTALLED_HEADERS = $(HEADERS)
+INSTALLED_SOURCES = $(SOURCES) embed/constant examples/embed/grants.c
+INSTALLED_MODULE = embed/python/r2u2/__init__.py embed/python/r2u2/py.typed
 
 install: install-embed
 uninstall: uninstall-embed
@@ -235,9 +267,11 @@ endif
 	install -m 644 $(INSTALLED_HEADERS) $(INTO)/include
 	install -m 644 $(INSTALLED_SOURCES) $(INTO)/share/r2u2/embed
 	chmod 755 $(INTO)/share/r2u2/embed/constant
+	install -d $(INTO)/share/r2u2/embed/r2u2
+	install -m 644 $(INSTALLED_MODULE) $(INTO)/share/r2u2/embed/r2u2
 	install -d $(INTO)/share/r2u2/embed/rust/src
 	install -m 644 embed/rust/build.rs $(INTO)/share/r2u2/embed/rust
-	install -m 644 embed/rust/src/lib.rs embed/rust/src/main.rs $(INTO)/share/r2u2/embed/rust/src
+	install -m 644 embed/rust/src/lib.rs embed/rust/src/arena.rs embed/rust/src/main.rs $(INTO)/share/r2u2/embed/rust/src
 	sed 's/"0.0.0"/"$(VERSION)"/' embed/rust/Cargo.toml > $(INTO)/share/r2u2/embed/rust/Cargo.toml
 	install -m 644 $(MANUALS:%=docs/man/%.3) $(INTO)/share/man/man3
 	sed 's|@PREFIX@|$(PREFIX)|; s|@VERSION@|$(VERSION)|' embed/r2u2.pc.in > $(INTO)/lib/pkgconfig/r2u2.pc

@@ -6,7 +6,7 @@ The word after the three backticks says what a block is:
             and a line `...` is any lines
   c2po      a specification, which has to compile
   csv       a trace, which the specification before it takes
-  c, cpp    a listing, which has to compile over include/, embed/ and dev/stubs/
+  c, cpp    a listing, which has to compile over include/ and dev/stubs/
   python    a listing, which has to parse
   sh        a script, which has to parse; commands that a test can run belong into console
   rattle    lines of a crate
@@ -92,11 +92,12 @@ def blocks_of(page: Path, text: str) -> List[Block]:
 
 
 def place_of(root: Path, library: bool) -> Place:
-    """The programs that the environment names, else those of build/."""
+    """Returns the programs that the environment names, else the proved ones of build/, else the unproved ones."""
     programs: Dict[str, Optional[str]] = {}
     for name in ("r2u2", "c2po"):
-        path = os.environ.get(name.upper()) or str(root / "build" / name)
-        programs[name] = os.path.abspath(path) if os.access(path, os.X_OK) else None
+        asked = os.environ.get(name.upper())
+        places = [asked] if asked else [root / "build" / name, root / "build/unproved" / f"{name}.run"]
+        programs[name] = next((os.path.abspath(path) for path in places if os.access(path, os.X_OK)), None)
     return Place(root, programs, library)
 
 
@@ -178,7 +179,7 @@ def run_tool(words: List[str], text: str = "", cwd: Optional[Path] = None) -> It
 def compile_listing(block: Block, place: Place) -> Iterator[str]:
     """Compiles a listing in C or C++; statements without a function are put into one."""
     language, standard = ("c", "-std=c11") if block.kind == "c" else ("c++", "-std=c++17")
-    folders = [f"-I{place.root / name}" for name in ("include", "embed", "embed/cpp", "dev/stubs")]
+    folders = [f"-I{place.root / name}" for name in ("include", "dev/stubs")]
     text = block.text
     if not re.search(r"^(?:[A-Za-z_].*\)|#include.*|.*class .*|.*template.*)(?:\s*\{.*)?$", text, re.M) or block.marks.get("in") == "function":
         text = "#include <string.h>\n#include \"page.h\"\nvoid page(void);\nvoid page(void) {\n" + text + "\n}\n"

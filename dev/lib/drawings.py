@@ -145,39 +145,29 @@ def boxes() -> Drawing:
     return it
 
 
-def floors() -> Dict[int, Dict[str, List[str]]]:
-    """The crates of crates.txt by floor and tower."""
-    found: Dict[int, Dict[str, List[str]]] = {}
-    names: List[str] = []
+def rooms() -> Drawing:
+    """Draws the rooms of crates.txt: the compiler and the monitor meet in the program alone."""
+    found: Dict[str, List[str]] = {}
+    room = ""
     for line in (ROOT / "crates.txt").read_text(encoding="utf-8").splitlines():
-        head = re.match(r"# floor (\d+), (\w+)$", line)
+        head = re.match(r"# room (\w+)", line)
         if head:
-            names = found.setdefault(int(head[1]), {}).setdefault(head[2], [])
+            room = head[1]
         elif line and not line.startswith("#"):
-            names.append(line.partition(":")[0].split()[0])
-    return found
-
-
-# Of each column of the picture of towers: its left edge, its width, and how many letters fit on a line.
-TOWERS = {"compiler": (60, 280, 33), "common": (350, 180, 21), "monitor": (540, 310, 37)}
-
-
-def towers() -> Drawing:
-    rows = []
-    for floor, parts in sorted(floors().items(), reverse=True):
-        lines = {tower: wrap("  ".join(names), TOWERS[tower][2]) for tower, names in parts.items()}
-        rows.append((floor, lines, 24 + 18 * max(map(len, lines.values()))))
-    it = Drawing(860, 66 + sum(high + 8 for _, _, high in rows), "The compiler on the left, the monitor on the right, common crates between them")
-    for tower, (x, width, _) in TOWERS.items():
-        it.text(x + width / 2, 22, tower)
-    top = 34
-    for floor, lines, high in rows:
-        it.text(14, top + high / 2 + 5, f"{floor}", "small", "start")
-        for tower, texts in lines.items():
-            x, width, _ = TOWERS[tower]
-            it.box(x, top, width, high, ["`" + text for text in texts], "main" if tower == "common" else "box")
-        top += high + 8
-    it.text(430, top + 14, "An edge goes down, or stays within its tower. The towers meet in obs_verify's checked program, and in bridges.", "small")
+            found.setdefault(room, []).append(line.partition(":")[0].split()[0])
+    it = Drawing(860, 500, "Tests over commands and theorems, over the compiler on the left and the monitor on the right, over the checked program, over the ground")
+    # Of each room: its left edge, its width, its top, its height, and how many letters fit on a line.
+    places = {
+        "tests": (40, 780, 14, 60, 88), "commands": (40, 510, 84, 60, 56), "theorems": (560, 260, 84, 60, 26),
+        "compiler": (40, 380, 154, 124, 42), "monitor": (440, 380, 154, 124, 42),
+        "program": (200, 460, 300, 84, 50), "ground": (40, 780, 406, 56, 88),
+    }
+    for name, (x, width, y, high, letters) in places.items():
+        lines = ["`" + text for text in wrap("  ".join(found[name]), letters)]
+        it.box(x, y, width, high, [name, *lines], "main" if name == "program" else "box")
+    it.arrow(230, 278, 330, 300)
+    it.arrow(630, 278, 530, 300)
+    it.text(430, 486, "A room sees what lies below it, and nothing beside it.", "small")
     return it
 
 
@@ -203,4 +193,4 @@ def flight() -> Drawing:
     return it
 
 
-DRAWINGS: Dict[str, Callable[[], Drawing]] = {it.__name__: it for it in (flow, queue, boxes, towers, flight)}
+DRAWINGS: Dict[str, Callable[[], Drawing]] = {it.__name__: it for it in (flow, queue, boxes, rooms, flight)}

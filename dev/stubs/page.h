@@ -2,8 +2,8 @@
 #ifndef PAGE_H
 #define PAGE_H
 
-#include "arena.h"
 #include "r2u2.h"
+#include "r2u2_port.h"
 
 extern const uint8_t program[];
 extern const size_t program_count;

@@ -4,10 +4,10 @@
 #include <stdint.h>
 
 #include "flight.h"
+#include "r2u2.h"
 
 enum { SYS_WRITE0 = 0x04, SYS_EXIT = 0x18 };
 
-static const char *const WORDS[] = {"F", "T", "inactive", "invalid", "verified"};
 static const int ROWS[][2] = {{1, 0}, {0, 1}, {1, 0}, {0, 0}, {0, 0}, {0, 0}};
 
 void leave(uint32_t code);
@@ -35,7 +35,7 @@ static void print_event(const char *name, uint64_t time, uint32_t word) {
     print(":");
     print_number(time);
     print(",");
-    print(WORDS[word]);
+    print(r2u2_word_text(word));
     print("\n");
 }
 

@@ -1,9 +1,9 @@
 /* A monitor for flight: its program is a constant, its memory an array. No heap, no file, no print. */
 #include "flight.h"
 
-#include "arena.h"
 #include "grant_program.h" /* by embed/constant grant_program grant.bin */
 #include "r2u2.h"
+#include "r2u2_port.h"
 
 enum { BYTES = 4096, COLUMNS = 2 };
 

@@ -3,8 +3,8 @@
 #include <unistd.h>
 
 #include "flight.h"
+#include "r2u2.h"
 
-static const char *const WORDS[] = {"F", "T", "inactive", "invalid", "verified"};
 static const int ROWS[][2] = {{1, 0}, {0, 1}, {1, 0}, {0, 0}, {0, 0}, {0, 0}};
 
 static int is_lost;
@@ -27,7 +27,7 @@ static void print_event(const char *name, uint64_t time, uint32_t word) {
     print(":");
     print_number(time);
     print(",");
-    print(WORDS[word]);
+    print(r2u2_word_text(word));
     print("\n");
 }
 

@@ -7,17 +7,15 @@
 
 enum { MOST_PROGRAM = 16777216, MOST_LINE = 65535, MOST_COLUMNS = 65536 };
 
-/* What a field that isn't an integer, or is too large for one, is handed over as: no column that is read holds these,
- * and any other column may hold anything. */
+/* The numbers that stand for a field that isn't an integer, and for one that is too large: no column that is read can hold
+ * these, and any other column may hold anything. */
 static const int64_t NO_NUMBER = INT64_MAX, TOO_LARGE = INT64_MAX - 1;
-
-static const char *const WORDS[] = {"F", "T", "inactive", "invalid", "verified"};
 
 static uint8_t program[MOST_PROGRAM + 1];
 static char line[MOST_LINE + 1];
 static int64_t numbers[MOST_COLUMNS];
 
-/* Reads a file, and returns the number of its bytes; none where it can't be read. */
+/* Reads a file, and returns the number of its bytes; 0 if it can't be read. */
 static size_t read_program(const char *name) {
     FILE *file = fopen(name, "rb");
     size_t count = file ? fread(program, 1, sizeof program, file) : 0;
@@ -25,7 +23,7 @@ static size_t read_program(const char *name) {
     return count;
 }
 
-/* How a line of the trace was read. */
+/* The outcome of reading a line of the trace. */
 enum got { GOT_LINE, GOT_END, GOT_TOO_MUCH };
 
 /* Reads the next line, without its end. */
@@ -82,7 +80,7 @@ static void print_reports(struct r2u2 *monitor) {
     while (r2u2_next(monitor, R2U2_EACH, &report) == R2U2_DONE) {
         char name[64] = {0};
         int length = (int)r2u2_name(monitor, report.output, name, sizeof name);
-        printf("%.*s:%llu,%s\n", length, name, (unsigned long long)report.time, WORDS[report.word]);
+        printf("%.*s:%llu,%s\n", length, name, (unsigned long long)report.time, r2u2_word_text(report.word));
     }
 }
 
@@ -100,7 +98,7 @@ static int not_a_row(unsigned long long number, uint32_t column, int is_short) {
     return faulty(number, what);
 }
 
-/* Takes the rows of the trace, and prints their reports. `got` says how its first line was read, which has number 1. */
+/* Takes the rows of the trace, and prints their reports. `got` is the outcome of reading the first line, which has number 1. */
 static int watch(struct r2u2 *monitor, FILE *trace, enum got got, size_t count, int is_header) {
     uint32_t width = r2u2_width(monitor);
     struct r2u2_row_fault fault = {0};
@@ -116,7 +114,7 @@ static int watch(struct r2u2 *monitor, FILE *trace, enum got got, size_t count, 
     return 0;
 }
 
-/* Opens the program, under the first line of the trace where that is a header and the program has names of signals. */
+/* Opens the program, under the first line of the trace if that is a header and the program has names of signals. */
 static int open_monitor(struct r2u2 *monitor, size_t size, size_t count, int is_header) {
     struct r2u2_fault fault = {0};
     uint32_t code = is_header ? r2u2_open_under(monitor, program, size, line, count, &fault)

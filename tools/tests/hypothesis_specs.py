@@ -1,4 +1,4 @@
-"""Specifications and traces over the whole grammar, as strategies of hypothesis: test_properties runs what uses them."""
+"""Specifications and traces over the whole grammar, as strategies of hypothesis."""
 
 from __future__ import annotations
 

@@ -2,6 +2,7 @@
 
 import os
 import resource
+import signal
 import subprocess
 import sys
 import tempfile
@@ -11,11 +12,19 @@ from pathlib import Path
 ROOT = Path(__file__).resolve().parent.parent.parent
 TOOLS = ROOT / "tools"
 DEV = ROOT / "dev"
-sys.path.insert(0, str(TOOLS / "lib"))
+# The tools: scripts beside the file that runs them.
+NAMES = sorted(path.name for path in TOOLS.iterdir() if path.is_file() and path.name != "r2u2-tools" and b"r2u2tools.__main__" in path.read_bytes())
 # How many seconds a test waits for what comes within one or two where no other work runs.
 PATIENCE = 150
 # Whether dev/coverage measures: tools take several times longer then.
 MEASURED = "COVERAGE_PROCESS_START" in os.environ
+
+
+for _name in ("r2u2", "c2po"):
+    # What is tested when nothing is proved; the tools say nothing of a program that a variable names.
+    _unproved = ROOT / "build/unproved" / f"{_name}.run"
+    if not (ROOT / "build" / _name).exists() and os.access(_unproved, os.X_OK):
+        os.environ.setdefault(_name.upper(), str(_unproved))
 
 
 def program(name):
@@ -52,6 +61,12 @@ def shell(line, **names):
         env=env,
     )
     return ran.returncode, ran.stdout, ran.stderr
+
+
+def with_signals():
+    """Sets signals to their default in a child: a background job's child inherits that some are ignored."""
+    for number in (signal.SIGINT, signal.SIGTERM, signal.SIGHUP):
+        signal.signal(number, signal.SIG_DFL)
 
 
 def spent():

@@ -2,15 +2,12 @@
 
 import os
 import shutil
-import sys
 import tempfile
 import unittest
 from pathlib import Path
 from unittest import mock
 
-from support import DEV, program
-
-sys.path.insert(0, str(DEV / "lib"))
+from support import program
 
 import blocks
 import drawings

@@ -7,14 +7,11 @@ import json
 import os
 import random
 import subprocess
-import sys
 import unittest
 from unittest import mock
 
 import random_specs
 from support import ROOT, Case, program, tool
-
-sys.path.insert(0, str(ROOT / "embed/python"))
 
 import r2u2
 

@@ -1,11 +1,8 @@
 """dev/lib/cases.py: which runs a script has, over which files."""
 
-import sys
 import unittest
 
-from support import DEV
 
-sys.path.insert(0, str(DEV / "lib"))
 
 import cases
 

@@ -52,7 +52,8 @@ class Converted(Case):
         env = {name.upper(): program(name) for name in ("c2po", "r2u2")}
         code, out, errors = tool("convert", form, *words, self.file(f"in.{ending}", text), env=env)
         self.assertEqual(code, status, errors)
-        return out, [line.removeprefix("convert: not taken: ") for line in errors.splitlines()]
+        self.forgetful = [line.removeprefix("convert: ") for line in errors.splitlines() if "looks back" in line]
+        return out, [line.removeprefix("convert: not taken: ") for line in errors.splitlines() if "looks back" not in line]
 
     def verdicts(self, text, trace):
         """The verdicts of a specification by output."""
@@ -108,20 +109,62 @@ class C2po(Converted):
     def test_what_uses_it_is_not_taken_either(self):
         text = "INPUT v: float; a: bool;\nDEFINE low := v < 3;\n  lower := low && a;\nFTSPEC f: lower -> a;\n g: a;\n"
         out, told = self.run_it("from-c2po", text, status=1)
-        self.assertEqual(told, ["line 1: float: scale it to integers, as millivolts", "line 2: it uses v, of line 1",
+        self.assertEqual(told, ["line 1: float: --scale v=1000, or --signals FILE, makes v an integer", "line 2: it uses v, of line 1",
                                 "line 3: it uses low, of line 2", "line 4: it uses lower, of line 3"])
         self.assertEqual([line for line in out.splitlines() if not line.startswith("--")], ["INPUT", "  a: bool;", "FTSPEC", "  g: a;"])
 
     def test_other_sections(self):
         text = "INPUT a: bool;\nATOMIC a0 := rate(a) < 3;\nENUM Mode: { ON, OFF };\nFTSPEC f: a;\n"
         self.assertEqual(self.run_it("from-c2po", text, status=1)[1], [
-            "line 2: atomic checkers: compare in the formula", "line 3: enumerations: define a number for each name"])
+            "line 2: rate: --write-signals FILE says where its signal goes", "line 3: enumerations: define a number for each name"])
 
     def test_numbers_that_change(self):
         text = "INPUT a: bool; FTSPEC a;\nF[0,3] G a;\nb: a;\nG[0,2] a;\n"
         told = self.run_it("from-c2po", text, status=1)[1]
         self.assertEqual(told, ["convert: from line 4 on, formulas without a label go by lower numbers, since one before isn't taken",
                                 "line 2: G over the mission time: --mission N gives it a number"])
+
+    OLD = """INPUT
+  i0: int; f0, heading: float; on: bool;
+DEFINE
+  limit := 2.5;
+ATOMIC
+  a0 := rate(f0) < 10.5;
+  a1 := movavg(f0, 5) >= limit;
+  a2 := abs_diff_angle(heading, 105) < 50;
+  a3 := int(i0) == 3;
+  a4 := bool(on) != 1;
+FTSPEC
+  s: a0 -> F[0,3] a1;
+  t: a2 && a3 && (2 * f0 + 1.5 < limit);
+  u: f0 < i0 || a4;
+"""
+
+    def test_decimals_and_atomic_checkers(self):
+        path = self.folder / "new.toml"
+        words = ("--scale", "f0=1000", "--scale", "heading=10", "--write-signals", path)
+        out, told = self.run_it("from-c2po", self.OLD, *words)
+        self.assertEqual(told, [])
+        for line in ("a0 := f0_rate < 10500;", "a1 := f0_mean_5 >= 2500;", "a2 := heading_angle_105 < 500;", "a3 := i0 == 3;", "a4 := !on;",
+                     "t: a2 && a3 && (2 * f0 + 1500 < 2500);", "u: f0 < (i0 * 1000) || a4;"):
+            self.assertIn(f"  {line}\n", out)
+        spec, log = self.file("new.c2po", out), self.file("log.csv", "i0,f0,heading,on\n3,0,200,1\n3,10.4,1,0\n3,-1,105.04,0\n")
+        status, trace, errors = tool("trace", "--spec", spec, "--signals", path, log)
+        self.assertEqual((status, errors), (0, ""))
+        self.assertEqual(trace, "# i0,f0,heading,on,f0_rate,f0_mean_5,heading_angle_105\n"
+                         "3,0,2000,1,0,0,950\n3,10400,10,0,10400,5200,1040\n3,-1000,1050,0,-11400,3133,0\n")
+        again = self.run_it("from-c2po", self.OLD, "--signals", path, "--write-signals", self.folder / "other.toml")
+        self.assertEqual((again, (self.folder / "other.toml").read_text().count("[")), ((out, []), 3))
+
+    def test_decimals_that_cannot_be_scaled(self):
+        head = "INPUT v, w: float; x: int;\nFTSPEC ok: x > 1;\n"
+        for text, said in (
+            ("a: v + w < 2.5;", "v and w have different scales"), ("a: v * w < 2;", "v and w have different scales"),
+            ("a: v * x < 2;", "a product of scaled numbers: one side has to be an integer"), ("a: v / 2 < 2;", "/ of scaled numbers"),
+            ("a: v < 2.55;", "2.55 times 10 isn't an integer: a larger scale is needed"), ("a: 1.5 * v < 2;", "1.5 as a factor isn't an integer"),
+        ):
+            told = self.run_it("from-c2po", head + text + "\n", "--scale", "v=10", "--scale", "w=100", status=1)[1]
+            self.assertEqual(told, [f"line 3: {said}"], text)
 
     def test_mission_time(self):
         text = "INPUT a: bool; FTSPEC f: G[0,M] a; g: F a; PTSPEC h: H a;\n"
@@ -160,6 +203,45 @@ def requirement(label, timing, p="p", text="", duration="2", scope="null", mode=
                "duration": duration if timing in ("within", "for", "after") else None, "post_condition": f"({p})"}
     text = text or f"it shall {timing} {duration} ticks satisfy p"
     return {"reqid": label, "project": "P", "fulltext": text, "semantics": meaning}
+
+
+def stretches(rows, scope):
+    """The first rows of a scope and of the rows after it; the last is past the rows where it doesn't end."""
+    modes, end = [row.get("m") for row in rows], len(rows) + 99
+    left = next((k for k in range(1, len(rows)) if modes[k - 1] and not modes[k]), end)
+    entered = next((k for k, it in enumerate(modes) if it), end)
+    if scope in ("in", "notin", "onlyIn"):
+        inside = [it == (scope == "in") for it in modes]
+        starts = [k for k, it in enumerate(inside) if it and not (k and inside[k - 1])]
+        return [(k, next((t for t in range(k, len(rows)) if not inside[t]), end)) for k in starts]
+    whole = {"null": (0, end), "before": (0, entered), "onlyAfter": (0, left), "after": (left, end), "onlyBefore": (entered, end)}[scope]
+    return [whole] if whole[0] < min(whole[1], len(rows)) else []
+
+
+def broken(rows, scope, condition, timing):
+    """The rows at which a sentence of FRET is broken."""
+    found, wanted, p = set(), not scope.startswith("only"), [row["p"] for row in rows]
+    p = [it == wanted for it in p]
+    for begin, end in stretches(rows, scope):
+        last = min(end, len(rows))
+        for q in [begin] if condition == "null" else [k for k in range(begin, last) if rows[k]["c"]]:
+            stop = next((k for k in range(q, len(rows)) if rows[k].get("s")), len(rows) + 99)
+            if timing == "null":
+                found |= {t for t in range(q, last) if not p[t]}
+            elif timing in ("immediately", "next"):
+                at = q + (timing == "next")
+                found |= {at} if at < last and not p[at] else set()
+            elif timing == "within":
+                found |= {t for t in range(q, min(last, q + 3)) if not p[t]}
+            elif timing == "for":
+                found |= {q + 2} if q + 2 < last and not any(p[q : q + 3]) else set()
+            elif timing == "until":
+                found |= {t for t in range(q, min(last, stop)) if not p[t]}
+            elif timing == "before":
+                found |= {stop} if stop < last and not any(p[q:stop]) else set()
+            else:
+                found |= {end} if end < len(rows) and not any(p[q:end]) else set()
+    return found
 
 
 class Fret(Converted):
@@ -214,6 +296,58 @@ class Fret(Converted):
         told = self.verdicts(out, "# p,q\n0,0\n0,1\n0,0\n0,1\n0,0\n")
         self.assertEqual([line for line in told["i"] if line.endswith("F")], ["2,F"])
 
+    def test_other_timings_by_their_sentences(self):
+        """A formula is false at the rows at which the sentence is broken, over random traces, in each scope."""
+        rng = random.Random(9)
+        made = []
+        for scope in ("null", "in", "notin", "before", "after"):
+            for condition in ("null", "holding"):
+                for timing in ("next", "until", "before", "eventually"):
+                    if timing == "eventually" and scope in ("null", "after"):
+                        continue
+                    label = f"{timing}_{scope}_{condition}"
+                    mode = "m" if scope != "null" else ""
+                    made.append(requirement(label, timing, scope=scope, mode=mode, condition=condition, when="c" * (condition == "holding")))
+                    made[-1]["semantics"]["stop_condition"] = "s"
+        for scope in ("onlyIn", "onlyBefore", "onlyAfter"):
+            made += [requirement(f"{timing}_{scope}_null", timing, scope=scope, mode="m") for timing in ("immediately", "null", "next", "within", "for")]
+        models = [{"variable_name": name, "dataType": "boolean"} for name in "pmcs"]
+        text = self.fret(made, models=models)[0]
+        columns = [name for line in text.splitlines() if line.startswith("INPUT") for name in line[6:].split(":")[0].split(", ")]
+        for _ in range(12):
+            rows = [{name: rng.random() < (0.3 if name in "sc" else 0.5) for name in columns} for _ in range(30)]
+            told = self.verdicts(text, f"# {','.join(columns)}\n" + "".join(",".join(str(int(row[name])) for name in columns) + "\n" for row in rows))
+            for it in made:
+                timing, scope, condition = it["reqid"].split("_")
+                wanted = [f"{t},{'F' if t in broken(rows, scope, condition, timing) else 'T'}" for t in range(30)]
+                self.assertEqual(told[it["reqid"]], wanted, (it["reqid"], rows))
+
+    def test_functions(self):
+        for text, wanted in (
+            ("preBool(false, q)", "(O[1,1] q)"), ("preBool(TRUE, (q & r))", "!(O[1,1] !(q && r))"), ("persisted(3, p)", "(H[0,3] p)"),
+            ("occurred(2, p) & q", "((O[0,2] p) && q)"), ("absReal(x - 2) < 3", "((x - 2) < 3 && 0 - (x - 2) < 3)"),
+            ("q | abs(x) >= 3", "(q || ((x) >= 3 || 0 - (x) >= 3))"),
+        ):
+            self.assertIn(f"DEFINE a_p := {wanted};", self.fret([requirement("a", "always", text)], models=[])[0].replace("\n", " "), text)
+        for text, said in (
+            ("preBool(q, r)", "preBool begins with q"), ("persisted(x, p)", "x isn't a number of rows"), ("preBool(q)", "preBool has 2 arguments"),
+            ("3 > abs(x)", "abs is taken where it is compared with a number on its right alone"), ("abs(x) + 1 > 3", "on its right alone"),
+        ):
+            self.assertIn(said, self.fret([requirement("a", "always", text)], models=[], status=1)[1][0], text)
+
+    def test_windows_that_forget(self):
+        self.fret([requirement("a", "always", scope="before", mode="q"), requirement("b", "always")], "--rate", "10")
+        self.assertEqual(self.forgetful, ["a looks back 1048576 rows and forgets what was before, 29.1 hours; a latch of a file of signals doesn't"])
+
+    def test_decimals(self):
+        made = [requirement("V-1", "always", "v > 2.5 & absReal(v) < 9.75")]
+        models = [{"variable_name": "v", "dataType": "double"}]
+        path, ids = self.folder / "new.toml", self.folder / "ids.csv"
+        out = self.fret(made, "--scale", "v=100", "--write-signals", path, "--ids", ids, models=models)[0]
+        self.assertIn("-- V_1, V-1: it shall", out)
+        self.assertIn("DEFINE V_1_p := (v > 250 && ((v) < 975 && 0 - (v) < 975));", out)
+        self.assertEqual((path.read_text(), ids.read_text()), ('[v]\nfrom = "v"\nscale = 100\n', "V_1,V-1\n"))
+
     def test_units(self):
         made = [requirement("a", "within", text="it shall within 0.5 seconds satisfy p", duration="0.5"),
                 requirement("b", "for", text="it shall for 3 ticks satisfy p", duration="3")]
@@ -236,15 +370,15 @@ class Fret(Converted):
         unless["semantics"]["qualifier_word"], twice["semantics"]["pre_condition"] = "unless", "r"
         strict["semantics"]["scope"] = {"type": "before", "required": True}
         for made, said in (
-            (requirement("a", "until"), "a: the timing until isn't in the tables"),
-            (requirement("a", "null"), "a: the timing eventually isn't in the tables"),
-            (requirement("a", "always", scope="onlyIn", mode="q"), "a: the scope onlyin isn't in the tables"),
-            (requirement("a", "always", "abs(x) > 2"), "a: no function abs here"),
+            (requirement("a", "until"), "a: its timing has no stop_condition"),
+            (requirement("a", "null"), "a: eventually in a scope without an end is never decided: write within"),
+            (requirement("a", "always", scope="onlyIn", mode="q"), "a: the scope onlyin with the timing always has more than one meaning"),
+            (requirement("a", "always", "sqrt(x) > 2"), "a: no function sqrt here"),
             (requirement("a", "always", "p xor q"), "a: xor isn't in the language here"),
-            (requirement("a", "always", "x > 2.5"), "a: 2.5 isn't an integer: scale it"),
+            (requirement("a", "always", "x > 2.5"), "a: 2.5 isn't an integer, and no signal there has a scale: --scale or --signals"),
             (requirement("a", "always", "p > q"), "a: c2po: wrong kind"),
             (requirement("a", "always", "p @ q"), "a: '@ q)' isn't understood"),
-            (requirement("a", "always", "v > 2"), "a: v is double: scale it to integers"),
+            (requirement("a", "always", "v > 2"), "a: v is double: --scale v=1000, or --signals FILE, makes it an integer"),
             (requirement("a", "within", text="it shall soon satisfy p"), "a: its text has no duration of within"),
             (requirement("a", "within", text="within 2 ticks, it shall within 2 ticks satisfy p"), "a: its text has 2 durations of within"),
             (requirement("a", "within", text="it shall within 3 ticks satisfy p"), "a: within 3 ticks: its semantics has the duration 2"),
@@ -277,6 +411,44 @@ class Fret(Converted):
             status, out, errors = tool("convert", "from-fret", self.file("x.json", text), env=env)
             self.assertEqual((status, out), (2, ""))
             self.one_line(errors)
+
+
+class Ogma(Converted):
+    """The JSON that Ogma reads: a component with formulas of the past."""
+
+    VARIABLES = [{"name": "flag", "type": "bool"}, {"name": "p", "type": "bool"}, {"name": "temp", "type": "real"}]
+    INTERNAL = [{"name": "hot", "type": "bool", "assignmentLustre": "temp > 20.5 and flag", "assignmentCopilot": ""}]
+
+    def ogma(self, formulas, *words, status=0):
+        document = {"Component": {"Internal_variables": self.INTERNAL, "Other_variables": self.VARIABLES, "Functions": [], "Requirements": formulas}}
+        return self.run_it("from-fret", json.dumps(document), *words, status=status, ending="json")
+
+    def test_formulas(self):
+        for key, text, wanted in (
+            ("ptLTL", "(H (flag -> (O[<=3] p)))", "(flag -> (O[0,3] p))"), ("ptLTL", "H (flag) -> p", "((H[0,1048576] flag) -> p)"),
+            ("ptLTL", "H ((Y flag) & (Z p) | ! p)", "(((O[1,1] flag) && (H[1,1] p)) || !p)"), ("ptLTL", "p S[2,5] flag", "(p S[2,5] flag)"),
+            ("ptLTL", "p T[=2] flag", "!(!p S[2,2] !flag)"), ("ptLTL", "O[<3] p", "(O[0,2] p)"),
+            ("CoCoSpecCode", "H((flag and FTP) => S(p, flag))", "((flag && !(O[1,1] true)) -> (p S[0,1048576] flag))"),
+            ("CoCoSpecCode", "not (temp + 1.5 <> 2.0)", "!((temp + 15) != 20)"),
+        ):
+            out = self.ogma([{"name": "R-1", key: text, "fretish": "as it was written"}], "--scale", "temp=10")[0]
+            self.assertIn(f"-- R_1, R-1: as it was written\nPTSPEC R_1: {wanted};", out, text)
+
+    def test_variables_of_the_component(self):
+        out = self.ogma([{"name": "a", "ptLTL": "hot -> Y hot"}], "--scale", "temp=10")[0]
+        self.assertIn("DEFINE a_hot := ((temp > 205) && flag);\nPTSPEC a: (a_hot -> (O[1,1] a_hot));", out)
+
+    def test_what_is_not_taken(self):
+        for key, text, said in (
+            ("ptLTL", "G p", "G looks ahead: only formulas of the past are taken"), ("CoCoSpecCode", "true -> pre p", "-> of Lustre"),
+            ("ptLTL", "p -> flag -> p", "brackets are needed: -> and then ->"), ("ptLTL", "p S flag S p", "brackets are needed: S and then S"),
+            ("ptLTL", "! temp > 3", "brackets are needed: ! and then >"), ("ptLTL", "temp > 2.55", "2.55 times 10 isn't an integer"),
+            ("ptLTL", "O[5,3] p", "[5,3] isn't an interval"), ("ptLTL", "", "it has no ptLTL and no CoCoSpecCode"), ("ptLTL", "abs(temp) > 1", "no function abs here"),
+        ):
+            out, told = self.ogma([{"name": "a", key: text}], "--scale", "temp=10", status=1)
+            self.assertIn(said, told[0], text)
+            self.assertIn("-- a isn't taken: ", out)
+        self.assertIn("temp is real: --scale temp=1000", self.ogma([{"name": "a", "ptLTL": "temp > 3"}], status=1)[1][0])
 
 
 LINES = "f:1,T\ng:4,inactive\nf:2,F\nf:6,T\ng:5,verified\n"

@@ -9,7 +9,7 @@ import sys
 import unittest
 import zipfile
 
-from support import DEV, PATIENCE, ROOT, TOOLS, Case, program, shell
+from support import DEV, PATIENCE, ROOT, TOOLS, Case, program, shell, with_signals
 from r2u2tools.check.server import place_of, units
 
 TEXT = """-- ein Kommentar: größer \N{GRINNING FACE}
@@ -36,7 +36,7 @@ class Editor:
 
     def __init__(self, errors=None, **env):
         words = [sys.executable, str(TOOLS / "check"), "--server"]
-        self.child = subprocess.Popen(words, stdin=subprocess.PIPE, stdout=subprocess.PIPE, stderr=errors, env={**os.environ, **env})
+        self.child = subprocess.Popen(words, preexec_fn=with_signals, stdin=subprocess.PIPE, stdout=subprocess.PIPE, stderr=errors, env={**os.environ, **env})
         self.number, self.told = 0, []
 
     def send(self, message):

@@ -6,6 +6,10 @@ import shutil
 from support import ROOT, Case, shell
 
 RT = '#!/bin/sh\necho "rt $* in ${PWD##*/}"\nexit "${RT_STATUS:-0}"\n'
+UNPROVED = """#!/bin/sh
+echo unproved: built >&2
+mkdir -p build/unproved && printf '#!/bin/sh\\necho "$*"\\n' > build/unproved/r2u2 && chmod +x build/unproved/r2u2
+"""
 
 
 class Goals(Case):
@@ -19,6 +23,7 @@ class Goals(Case):
         self.program("dev/test", "#!/bin/sh\necho 3 passed, 0 failed\n")
         self.program("dev/edges", "#!/bin/sh\necho 2 passed, 0 failed\n")
         self.program("dev/prove", "#!/bin/sh\necho prove $*\n")
+        self.program("dev/unproved", UNPROVED)
         self.file("crates/worked_cases/stdin", "")
         for name in ("grant.c2po", "grant.csv"):
             self.file(f"examples/{name}", "")
@@ -36,17 +41,19 @@ class Goals(Case):
         return sorted(path.name for path in (self.folder / "build").glob("*"))
 
     def test_try(self):
-        root = self.folder.resolve()
-        status, out, _ = self.make("try")
-        self.assertEqual(status, 0)
-        self.assertIn("Unproved", out)
-        self.assertIn(f"rt try -- --source {root}/examples/grant.c2po {root}/examples/grant.csv in r2u2\n", out)
+        wanted = "--source examples/grant.c2po examples/grant.csv\n"
+        self.assertEqual(self.make("try"), (0, wanted, "unproved: built\n"))
 
     def test_try_over_files_of_ones_own(self):
         spec, trace = self.file("my own.c2po", ""), self.file("my.csv", "")
-        status, out, _ = self.make("try SPEC='my own.c2po' TRACE=\"$TRACE\"", TRACE=trace)
-        self.assertEqual(status, 0)
-        self.assertIn(f"--source {spec.resolve()} {trace.resolve()} in r2u2", out)
+        status, out, _ = self.make(f"try SPEC='{spec}' TRACE=\"$TRACE\"", TRACE=trace)
+        self.assertEqual((status, out), (0, f"--source {spec} {trace}\n"))
+
+    def test_test_builds_programs_when_none_is_proved(self):
+        self.assertEqual(self.make("test")[::2], (0, "unproved: built\n"))
+        for name in ("r2u2", "c2po"):
+            self.program(f"build/{name}", "")
+        self.assertEqual(self.make("test")[::2], (0, ""))
 
     def test_test_tells_both_counts(self):
         status, out, _ = self.make("test")

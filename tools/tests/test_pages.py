@@ -81,7 +81,7 @@ class Pages(unittest.TestCase):
         self.assertEqual(self.told(), (0, "pages: ok\n"))
 
     def test_counts_of_the_library(self):
-        """The counts that embed/misuse.c printed are those of the page."""
+        """The counts that embed/tests/misuse.c printed are those of the page."""
         page = (self.top / "docs/reference/c-interface.md").read_text(encoding="utf-8")
         counts = re.search(r"(\d+) of an opening, (\d+) of one under a header and (\d+) of `r2u2_bytes`", page).groups()
         self.addCleanup(shutil.rmtree, self.top / "build")
@@ -93,7 +93,7 @@ class Pages(unittest.TestCase):
         out.write_text(printed.format(counts[0], int(counts[1]) + 1, counts[2]), encoding="utf-8")
         status, said = self.told()
         self.assertEqual(status, 1)
-        self.assertIn("docs/reference/c-interface.md: embed/misuse.c counts", said)
+        self.assertIn("docs/reference/c-interface.md: embed/tests/misuse.c counts", said)
 
     def test_a_name_in_a_comment_is_none(self):
         page, code = self.top / "docs/assurance/promises.md", self.top / "crates/scq_ring/src/lib.rt"

@@ -20,8 +20,7 @@ def light_of(colour):
 
 class Palette(unittest.TestCase):
     def test_no_colour_stands_elsewhere(self):
-        files = [path for path in TOOLS.iterdir() if path.is_file()]
-        files += [path for kind in ("py", "html", "css", "js") for path in (TOOLS / "lib").rglob(f"*.{kind}")]
+        files = [path for kind in ("py", "html", "css", "js") for path in (TOOLS / "lib").rglob(f"*.{kind}")]
         for path in files:
             if path.name != "palette.py":
                 self.assertIsNone(COLOUR.search(path.read_text(encoding="utf-8")), path)

@@ -10,7 +10,7 @@ import subprocess
 import sys
 
 import chromium
-from support import PATIENCE, ROOT, TOOLS, Case, program, tool
+from support import PATIENCE, ROOT, TOOLS, Case, program, tool, with_signals
 from r2u2tools.common.cli import Trouble
 from r2u2tools.play import runs
 from r2u2tools.play.examples import examples
@@ -31,7 +31,7 @@ class Served(Case):
         program("c2po")
         program("r2u2")
         words = [sys.executable, str(TOOLS / "play"), "--no-browser", *map(str, self.words)]
-        self.child = subprocess.Popen(words, stdout=subprocess.PIPE, stderr=subprocess.PIPE, encoding="utf-8")
+        self.child = subprocess.Popen(words, stdout=subprocess.PIPE, stderr=subprocess.PIPE, encoding="utf-8", preexec_fn=with_signals)
         self.addCleanup(self.end)
         self.url = self.child.stdout.readline().strip()
         self.port = int(self.url.split(":")[2].partition("/")[0])

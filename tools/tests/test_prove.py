@@ -27,6 +27,7 @@ class Proofs(Case):
         self.file("HANDLES", "Handles allowed: none.\n")
         self.file("bin/rt", RT).chmod(0o755)
         shutil.copy(ROOT / "dev/prove", self.folder / "dev")
+        shutil.copytree(ROOT / "dev/lib", self.folder / "dev/lib")
 
     def prove(self, words, **names):
         path = f"{self.folder}/bin:{os.environ['PATH']}"

@@ -4,13 +4,11 @@ import random
 import unittest
 from unittest import mock
 
-from support import TOOLS
 from r2u2tools.common.program_text import program_text
 from r2u2tools.why import row_values
 from r2u2tools.why.omega import Omega, Unknown, value_of
 from r2u2tools.why.row_values import quotient
 
-assert TOOLS.is_dir()  # support puts the library of the tools on the path
 SMALL = range(-6, 7)
 SIGNS = {
     "+": lambda a, b: a + b, "-": lambda a, b: a - b, "*": lambda a, b: a * b, "/": quotient, "%": lambda a, b: a - b * quotient(a, b),

@@ -7,9 +7,8 @@ import sys
 import time
 from pathlib import Path
 
-from support import PATIENCE, TOOLS, Case, shell
+from support import NAMES, PATIENCE, TOOLS, Case, shell, with_signals
 
-NAMES = sorted(path.name for path in TOOLS.iterdir() if path.is_file())
 SLOW = """#!/bin/sh
 echo $$ > "$PLACE/pid"
 [ "$1" = --source ] || [ -n "$SILENT" ] || echo "f:0,T"
@@ -40,6 +39,7 @@ class Ended(Case):
         child = subprocess.Popen(
             [sys.executable, str(TOOLS / name), *map(str, words)],
             stdin=subprocess.PIPE, stdout=subprocess.PIPE, stderr=subprocess.PIPE, env=self.env, start_new_session=True,
+            preexec_fn=with_signals,
         )
         self.addCleanup(self.stop, child)
         return child
@@ -164,7 +164,7 @@ class Installed(Case):
         prefix, other = self.folder / "usr", self.folder / "other"
         for folder in (prefix / "bin", prefix / "share/r2u2/tools", other):
             folder.mkdir(parents=True)
-        shell('cp -r "$TOOLS/verdicts" "$TOOLS/lib" "$INTO"', INTO=prefix / "share/r2u2/tools")
+        shell('cp -r "$TOOLS/r2u2-tools" "$TOOLS/verdicts" "$TOOLS/lib" "$INTO"', INTO=prefix / "share/r2u2/tools")
         for folder, word in ((prefix / "bin", "T"), (other, "F")):
             path = folder / "r2u2"
             path.write_text(f"#!/bin/sh\necho f:0,{word}\n")

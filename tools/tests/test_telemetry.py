@@ -118,7 +118,7 @@ class Lists(Telemetry):
 
     def test_a_name_without_a_value_yet(self):
         text = "t,n,v\n0,alt,5\n0.1,up,1\n"
-        self.assertEqual(self.refused(text, *self.WORDS, "--columns", "alt,up"), "line 2 (up): no value yet")
+        self.assertEqual(self.refused(text, *self.WORDS, "--columns", "alt,up"), "line 2 (up): no value yet: --missing up=0 gives one, --start begins later")
         self.assertEqual(self.made(text, *self.WORDS, "--columns", "alt,up", "--missing", "up=0"), "# alt,up\n5,0\n5,1\n")
 
     def test_values_that_are_replaced_are_counted(self):
@@ -198,7 +198,7 @@ class Dumps(Telemetry):
 
     def test_faults(self):
         words = ["--rate", "10", "--scale", "volts=100"]
-        self.assertEqual(self.refused(DUMP, *words, name="d.vcd"), "line 19 (up): an empty field: --hold takes the last value")
+        self.assertEqual(self.refused(DUMP, *words, name="d.vcd"), "line 19 (up): 'x' is no value: --hold takes the last value")
         for old, new, said in (
             ("10 ms", "7 ms", "line 3: '7 ms' isn't a time scale"), ("b101 #", "b102 #", "'b102' isn't a value of a dump"),
             ("b101 #", "b101 ?", "no $var has '?'"), ("#30", "#x", "'#x' isn't a time of a dump"), ("$enddefinitions $end", "", "line 13: '#0' isn't an item"),

@@ -223,14 +223,15 @@ class Times(Traces):
         self.assertEqual(tool("trace", *self.WORDS, "--hold", "--start", "2", path)[1], "# a\n2\n3\n")
 
     def test_against_a_plain_reading(self):
-        """Row k holds the last line at or before k / 10 s."""
+        """Row k holds the last line at or before its time; row 0 is at the first multiple of 0.1 s from the first line on."""
         rng = random.Random(7)
         for _ in range(20):
             times = sorted(rng.randint(0, 3000) for _ in range(40))
             lines = [(time, rng.randint(-99, 99)) for time in times]
             text = "t,a\n" + "".join(f"{time / 1000:.3f},{value}\n" for time, value in lines)
             told = tool("trace", *self.WORDS, "--hold", give=text)[1].split()[2:]
-            first, count = times[0], -(-(times[-1] - times[0]) // 100) + 1
+            first = -(-times[0] // 100) * 100
+            count = max(0, -(-(times[-1] - first) // 100)) + 1
             plain = [[value for time, value in lines if time <= first + 100 * k][-1] for k in range(count)]
             self.assertEqual(told, [str(value) for value in plain])
 

@@ -10,13 +10,13 @@ use Rattle.mltl_base.specs.Subformulas.{IsOfTense, IsTensed}
 use Rattle.mltl_base.specs.declared.interval.Engine.TheVariants as engines
 use Rattle.mltl_base.specs.declared.interval.Engine.{Engine}
 use Rattle.mltl_base.specs.declared.operators.CompareOp.TheVariants.{Eq}
-use Rattle.c2po_nodes.specs.declared.nodes.Plain.{Plain}
-use Rattle.c2po_nodes.specs.declared.nodes.Plain.TheVariants.{Number, Signal, Compare}
-use Rattle.c2po_nodes.specs.declared.nodes.PlainOut.{PlainOut}
-use Rattle.c2po_nodes.specs.declared.nodes.PlainOut.TheVariants.{Formula, Contract}
-use Rattle.c2po_nodes.specs.Nodes.{Tree, number, formula, comparison, node_formula, formula_in, node_term, tree_of, trees, Has, Grows, IsFormula, IsFormed, AreSound}
-use Rattle.c2po_nodes.specs.Outputs.{NamesFormulas, asked_by}
-use Rattle.c2po_nodes.proofs.Pushing.{has_new, grows_push, sound_nil, sound_push, is_number, is_formula}
+use Rattle.c2po_ast.specs.declared.nodes.Plain.{Plain}
+use Rattle.c2po_ast.specs.declared.nodes.Plain.TheVariants.{Number, Signal, Compare}
+use Rattle.c2po_ast.specs.declared.nodes.PlainOut.{PlainOut}
+use Rattle.c2po_ast.specs.declared.nodes.PlainOut.TheVariants.{Formula, Contract}
+use Rattle.c2po_ast.specs.Nodes.{Tree, number, formula, comparison, node_formula, formula_in, node_term, tree_of, trees, Has, Grows, IsFormula, IsFormed, AreSound}
+use Rattle.c2po_ast.specs.Outputs.{NamesFormulas, asked_by}
+use Rattle.c2po_ast.proofs.Pushing.{has_new, grows_push, sound_nil, sound_push, is_number, is_formula}
 
 -- sound nodes with a signal and another whole number, and outputs that name formulas
 pub record AreComparing (signal other : ℕ) (nodes : List Plain) (outs : List PlainOut) : Type 0 where

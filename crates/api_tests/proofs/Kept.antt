@@ -47,6 +47,3 @@ after_bytes n before now place into log = adds before now (Took place (take n in
 
 pub after_end : (before now : List Event) (place : Place) (into : List ℕ) → ReadLog got.TheVariants.End (Some before) (Some now) place into → taken Program now ≡ taken Program before
 after_end before now place into log = keeps before now (Took place [] ∷ []) log (nothing_took place)
-
-pub after_fault : (before now : List Event) (place : Place) (into : List ℕ) → ReadLog got.TheVariants.Failed (Some before) (Some now) place into → taken Program now ≡ taken Program before
-after_fault before now place into log = keeps before now [] log refl

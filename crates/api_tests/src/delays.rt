@@ -1,6 +1,6 @@
 //! The greatest worst-case delay. Only a program file reaches it: the formulas of a specification would be too heavy.
 
-use obs_files::{FileFault, ProgramFault, open};
+use obs_binary::{FileFault, ProgramFault, open};
 use r2u2_monitor::delay_of;
 use std::alloc::{AllocError, Global};
 use std::test::Fail;

@@ -2,10 +2,10 @@
 
 ghost use Rattle.std.specs.Prelude.{All, IfOk};
 ghost use Rattle.mltl_base.specs.Subformulas.{IsTensed};
-ghost use Rattle.c2po_nodes.specs.Nodes.{AreSound, trees};
-ghost use Rattle.c2po_nodes.specs.Outputs.{NamesFormulas, asked};
+ghost use Rattle.c2po_ast.specs.Nodes.{AreSound, trees};
+ghost use Rattle.c2po_ast.specs.Outputs.{NamesFormulas, asked};
 
-use c2po_nodes::{Expanded, NodeList, Plain, PlainOut};
+use c2po_ast::{Expanded, NodeList, Plain, PlainOut};
 use core_graph::{GraphFault, to_core};
 use mltl_base::{Columns, CompareOp, Engine, List, Name};
 use std::alloc::{AllocError, Global};

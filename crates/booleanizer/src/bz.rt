@@ -5,7 +5,7 @@ ghost use Rattle.mltl_base.specs.Programs.{IsFit};
 ghost use Rattle.booleanizer.specs.Evaluation.{IsTruthIn, numbers_on};
 
 use crate::evaluation::evaluate;
-use fixed_list::Fixed;
+use mltl_base::Fixed;
 use mltl_base::steps::Steps;
 use obs_verify::Checked;
 use std::alloc::{AllocError, Global};

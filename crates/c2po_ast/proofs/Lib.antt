@@ -1,2 +1,5 @@
-pub mod Rows
 pub mod Copying
+pub mod NoFaults
+pub mod Places
+pub mod Pushing
+pub mod Rows

@@ -11,10 +11,15 @@
 
 mod copy;
 pub mod item;
+pub mod laws;
 pub mod node;
+pub mod node_list;
+pub mod nodes;
 pub mod operator;
 pub mod tree;
 
 pub use copy::{copy_tree, copy_type, field_names};
 pub use item::{Body, FieldDecl, Item, SpecTree, TypeTree};
+pub use node_list::NodeList;
+pub use nodes::{Expanded, Plain, PlainOut};
 pub use tree::{Expr, Node};

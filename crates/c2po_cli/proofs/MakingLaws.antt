@@ -15,8 +15,8 @@ use Rattle.c2po_compile.specs.Refusals.{header_refusal, unless_refused, IsFirstR
 use Rattle.c2po_compile.specs.Front.{items_in, refusal_in, first_refusal}
 use Rattle.c2po_compile.specs.Limits.{limit_refusal}
 use Rattle.c2po_compile.specs.Image.{over_columns}
-use Rattle.c2po_compile.specs.Compiled.{columns_by, image_of_text}
-use Rattle.c2po_compile.specs.Simplified.{simple_image}
+use Rattle.c2po_compile.specs.Compiled.{columns_by, compile_text}
+use Rattle.c2po_compile.specs.Simplified.{simplify_over}
 use Rattle.c2po_compile.proofs.CompiledLaws.{text_refused, header_answer, back_answers, back_refuses}
 use Rattle.c2po_compile.proofs.SimpleLaws.{simple_compiled, simple_refused}
 use Rattle.tool_words.specs.declared.status.Status.{Status}
@@ -24,24 +24,24 @@ use Rattle.tool_words.specs.declared.status.Status.TheVariants.{Memory}
 use Rattle.c2po_cli.specs.declared.make.Form.{Form}
 use Rattle.tool_words.specs.FirstLine.{begins_long}
 use Rattle.tool_words.specs.Statuses.{compile_status}
-use Rattle.c2po_cli.specs.Made.{compiled_bytes, image_by, asked_program, text_bytes, written_as, unless_long, first_line, made_of_text}
+use Rattle.c2po_cli.specs.Made.{compiled_bytes, compile_as, asked_program, text_bytes, written_as, unless_long, first_line, made_of_text}
 use Rattle.c2po_cli.specs.Phases.{IsRefusal, RefusesAlone}
 
 -- a text is refused alike in both forms
-pub refused_by : (simplify : Bool) (text : List ℕ) (header : Option (List ℕ)) (fault : CompileFault) → image_of_text text header ≡ Err fault → asked_program simplify text header ≡ Err fault
+pub refused_by : (simplify : Bool) (text : List ℕ) (header : Option (List ℕ)) (fault : CompileFault) → compile_text text header ≡ Err fault → asked_program simplify text header ≡ Err fault
 refused_by false text header fault h = h
 refused_by true text header fault h = simple_refused text header fault h
 
 -- and compiled in each
 compiled_by : (simplify : Bool) (text : List ℕ) (header : Option (List ℕ)) (items : List ItemShape) (columns : Columns) (program : Program) → first_refusal text ≡ None → items ≡ items_in text
-    → columns_by (signals_of items) header ≡ Ok columns → program ≡ image_by simplify columns (signals_of items) (outputs_of items) → limit_refusal (over_columns columns (outputs_of items)) ≡ None
+    → columns_by (signals_of items) header ≡ Ok columns → program ≡ compile_as simplify columns (signals_of items) (outputs_of items) → limit_refusal (over_columns columns (outputs_of items)) ≡ None
     → asked_program simplify text header ≡ Ok program
 compiled_by false text header items columns program none same found made within = back_answers text header items columns (Ok program) none same found made within
 compiled_by true text header items columns program none same found made within =
     simple_compiled text header columns program none
     (ap (λ is. columns_by (signals_of is) header) (sym same) ∙ found)
     (ap (λ is. limit_refusal (over_columns columns (outputs_of is))) (sym same) ∙ within)
-    (made ∙ ap (λ is. simple_image columns (signals_of is) (outputs_of is)) same)
+    (made ∙ ap (λ is. simplify_over columns (signals_of is) (outputs_of is)) same)
 
 -- the header doesn't name the signals of a specification
 pub header_refuses : (form : Form) (text : List ℕ) (header : Option (List ℕ)) (items : List ItemShape) (fault : CompileFault) → first_refusal text ≡ None → items ≡ items_in text
@@ -72,7 +72,7 @@ alone_limit first fault is = tt
 
 -- its program is written
 pub text_written : (form : Form) (header : Option (List ℕ)) (items : List ItemShape) (columns : Columns) (program : Program) (result : Result (Vec ℕ Global) Status)
-    → columns_by (signals_of items) header ≡ Ok columns → program ≡ image_by form.simplify columns (signals_of items) (outputs_of items) → limit_refusal (over_columns columns (outputs_of items)) ≡ None
+    → columns_by (signals_of items) header ≡ Ok columns → program ≡ compile_as form.simplify columns (signals_of items) (outputs_of items) → limit_refusal (over_columns columns (outputs_of items)) ≡ None
     → IfOk result (λ bytes. bytes.items ≡ written_as form.table program)
     → IfOk result (λ bytes. (text : List ℕ) → first_refusal text ≡ None → items ≡ items_in text → text_bytes form text header ≡ Ok bytes.items)
 text_written form header items columns program (Ok bytes) found made within is = λ text none same.

@@ -4,10 +4,10 @@ use Rattle.std.proofs.Common.{◌≡◌, ◌∙◌, ℕ, Option, Some, None, Res
 use Rattle.mltl_base.specs.declared.program.Columns.{Columns}
 use Rattle.mltl_base.specs.declared.program.Program.{Program}
 use Rattle.tool_io.specs.Log.{Event}
-use Rattle.obs_files.specs.Layout.{IsEncodable, spelling}
-use Rattle.obs_files.specs.declared.fault.FileFault.{FileFault}
-use Rattle.obs_files.specs.Faults.{opened}
-use Rattle.obs_files.proofs.Spelled.{opened_spelled}
+use Rattle.obs_binary.specs.Layout.{IsEncodable, spelling}
+use Rattle.obs_binary.specs.declared.file_fault.FileFault.{FileFault}
+use Rattle.obs_binary.specs.Faults.{opened}
+use Rattle.obs_binary.proofs.Spelled.{opened_spelled}
 use Rattle.obs_show.specs.declared.fault.ShowFault.{ShowFault}
 use Rattle.obs_show.specs.Limits.{show_fault}
 use Rattle.obs_show.specs.Text.{text}
@@ -16,8 +16,8 @@ use Rattle.obs_verify.specs.Upgrade.{clash_of, up}
 use Rattle.obs_verify.specs.WellFormed.{IsWellFormed}
 use Rattle.c2po_compile.specs.Front.{first_refusal}
 use Rattle.c2po_compile.specs.Image.{image}
-use Rattle.c2po_compile.specs.ImageFiles.{image_in, stored_columns}
-use Rattle.c2po_compile.specs.Simplified.{simple_image_in}
+use Rattle.c2po_compile.specs.ImageFiles.{compile_over, stored_columns}
+use Rattle.c2po_compile.specs.Simplified.{compile_simplified_over}
 use Rattle.c2po_compile.proofs.MovedImages.{layout_of}
 use Rattle.show_roundtrip.proofs.Images.{image_returns, simple_returns}
 use Rattle.show_roundtrip.proofs.ShownImages.{image_passes, simple_passes}
@@ -42,22 +42,22 @@ raised_within program (Some i) written is = absurd (cc)
 record IsGivenBack (p : Program) : Type 0 where
   second : up p ≡ p
   faultless : HasLayout p → IsWellFormed p → show_fault p ≡ None → first_refusal (text p) ≡ None
-  same : HasLayout p → IsWellFormed p → first_refusal (text p) ≡ None → image_in (text p) (stored_columns p) ≡ p
+  same : HasLayout p → IsWellFormed p → first_refusal (text p) ≡ None → compile_over (text p) (stored_columns p) ≡ p
 
-image_back : (source : List ℕ) (columns : Columns) → first_refusal source ≡ None → IsGivenBack (image_in source columns)
+image_back : (source : List ℕ) (columns : Columns) → first_refusal source ≡ None → IsGivenBack (compile_over source columns)
 unfolding image
 image_back source columns none = record {
   second = refl;
-  faultless = λ few formed within. image_passes source columns (image_in source columns) none refl few formed within;
-  same = λ few formed faultless. image_returns source columns (image_in source columns) none refl few formed faultless;
+  faultless = λ few formed within. image_passes source columns (compile_over source columns) none refl few formed within;
+  same = λ few formed faultless. image_returns source columns (compile_over source columns) none refl few formed faultless;
 }
 
-simple_back : (source : List ℕ) (columns : Columns) → first_refusal source ≡ None → IsGivenBack (simple_image_in source columns)
+simple_back : (source : List ℕ) (columns : Columns) → first_refusal source ≡ None → IsGivenBack (compile_simplified_over source columns)
 unfolding image
 simple_back source columns none = record {
   second = refl;
-  faultless = λ few formed within. simple_passes source columns (simple_image_in source columns) none refl few formed within;
-  same = λ few formed faultless. simple_returns source columns (simple_image_in source columns) none refl few formed faultless;
+  faultless = λ few formed within. simple_passes source columns (compile_simplified_over source columns) none refl few formed within;
+  same = λ few formed faultless. simple_returns source columns (compile_simplified_over source columns) none refl few formed faultless;
 }
 
 -- the bytes of such a program return from its text
@@ -71,8 +71,8 @@ given_back p program file written back fits spells opens within is =
     record {
       faultless = ap first_refusal (sym bytes) ∙ faultless;
       image =
-          ap (λ (w : List ℕ). spelling (image_in w (stored_columns program))) (sym bytes)
-          ∙ ap (λ (q : Program). spelling (image_in (text p) (stored_columns q))) (sym found.1)
+          ap (λ (w : List ℕ). spelling (compile_over w (stored_columns program))) (sym bytes)
+          ∙ ap (λ (q : Program). spelling (compile_over (text p) (stored_columns q))) (sym found.1)
           ∙ ap spelling (back.same few found.0 faultless)
           ∙ sym spells;
     }
@@ -85,8 +85,8 @@ shown_as file written (Ok program) opens is =
       program = program;
       opens = opens;
       text = sym within.1;
-      image = λ source columns of. given_back (image_in source columns) program file written (image_back source columns of.faultless) of.fits of.bytes opens within.0 within.1;
-      simple_image = λ source columns of. given_back (simple_image_in source columns) program file written (simple_back source columns of.faultless) of.fits of.bytes opens within.0 within.1;
+      image = λ source columns of. given_back (compile_over source columns) program file written (image_back source columns of.faultless) of.fits of.bytes opens within.0 within.1;
+      simplify_over = λ source columns of. given_back (compile_simplified_over source columns) program file written (simple_back source columns of.faultless) of.fits of.bytes opens within.0 within.1;
     }
 shown_as file written (Err fault) opens is = absurd (cc)
 

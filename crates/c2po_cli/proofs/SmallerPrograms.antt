@@ -4,10 +4,10 @@ use Rattle.std.proofs.Common.{◌≡◌, ◌∙◌, ℕ, Bool, true, false, Opti
 use Rattle.mltl_base.specs.declared.program.Program.{Program}
 use Rattle.tool_io.specs.Log.{Event}
 use Rattle.c2po_compile.specs.declared.fault.CompileFault.{CompileFault}
-use Rattle.c2po_compile.specs.Compiled.{image_of_text}
+use Rattle.c2po_compile.specs.Compiled.{compile_text}
 use Rattle.c2po_compile.specs.Front.{first_refusal}
 use Rattle.c2po_compile.specs.Refusals.{unless_refused}
-use Rattle.c2po_compile.specs.Simplified.{simple_image_of_text}
+use Rattle.c2po_compile.specs.Simplified.{compile_simplified}
 use Rattle.c2po_compile.proofs.SimpleLaws.{simple_no_more, simple_refused}
 use Rattle.tool_words.specs.declared.status.Status as status
 use Rattle.tool_words.specs.FirstLine.{begins_long}
@@ -36,7 +36,7 @@ text_gives form (Some name) text lines written is =
     (unrefused (option_map compile_status (first_refusal text)) (unless_long (begins_long lines) (text_bytes form text (Some (first_line lines)))) written is)
 
 -- a simplified program has a plain one that is no smaller
-no_larger : (tabled : Bool) (text : List ℕ) (header : Option (List ℕ)) (written : List ℕ) (simple plain : Result Program CompileFault) → simple_image_of_text text header ≡ simple → image_of_text text header ≡ plain
+no_larger : (tabled : Bool) (text : List ℕ) (header : Option (List ℕ)) (written : List ℕ) (simple plain : Result Program CompileFault) → compile_simplified text header ≡ simple → compile_text text header ≡ plain
     → compiled_bytes tabled simple ≡ Ok written → IsNoLarger tabled text header written
 no_larger tabled text header written (Ok simple) (Ok plain) is was makes = record {
   simple = simple;
@@ -51,7 +51,7 @@ no_larger tabled text header written (Err fault) plain is was makes = absurd (cc
 
 text_no_larger : (form : Form) (text : List ℕ) (header : Option (List ℕ)) (written : List ℕ) → form.simplify ≡ true → text_bytes form text header ≡ Ok written → IsNoLarger form.table text header written
 text_no_larger form text header written simplified makes =
-    no_larger form.table text header written (simple_image_of_text text header) (image_of_text text header) refl refl
+    no_larger form.table text header written (compile_simplified text header) (compile_text text header) refl refl
     (ap (λ simplify. compiled_bytes form.table (asked_program simplify text header)) (sym simplified) ∙ makes)
 
 -- so does a whole run

@@ -6,9 +6,9 @@ use Rattle.std.specs.declared.alloc.Global.{Global}
 use Rattle.mltl_base.specs.declared.program.Program.{Program}
 use Rattle.mltl_base.specs.Programs.{outputs, output_names}
 use Rattle.tool_io.specs.Log.{Event}
-use Rattle.obs_files.specs.Layout.{IsEncodable}
-use Rattle.obs_files.specs.Faults.{opened}
-use Rattle.obs_files.proofs.Opening.{found_again}
+use Rattle.obs_binary.specs.Layout.{IsEncodable}
+use Rattle.obs_binary.specs.Faults.{opened}
+use Rattle.obs_binary.proofs.Opening.{found_again}
 use Rattle.obs_verify.specs.Upgrade.{clash_of, first_clash, raised, up}
 use Rattle.obs_verify.specs.WellFormed.{IsWellFormed}
 use Rattle.obs_verify.proofs.WellRaised.{names_raised, outputs_raised, well_raised}

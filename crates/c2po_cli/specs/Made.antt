@@ -8,11 +8,11 @@ use Rattle.mltl_base.specs.declared.signal.Signal.{Signal}
 use Rattle.mltl_base.specs.Subformulas.{Asked}
 use Rattle.tool_io.specs.declared.host.Place.TheVariants.{Header, Out}
 use Rattle.tool_io.specs.Cutting.{line_text}
-use Rattle.obs_files.specs.Layout.{spelling}
+use Rattle.obs_binary.specs.Layout.{spelling}
 use Rattle.obs_verify.specs.Upgrade.{up, clash_of}
-use Rattle.obs_files.specs.declared.fault.FileFault.{FileFault}
-use Rattle.obs_files.specs.declared.fault.ProgramFault.TheVariants.{Operand}
-use Rattle.obs_files.specs.Faults.{opened}
+use Rattle.obs_binary.specs.declared.file_fault.FileFault.{FileFault}
+use Rattle.obs_binary.specs.declared.file_fault.ProgramFault.TheVariants.{Operand}
+use Rattle.obs_binary.specs.Faults.{opened}
 use Rattle.obs_show.specs.declared.fault.ShowFault.{ShowFault}
 use Rattle.obs_show.specs.declared.fault.ShowFault.TheVariants as show_fault
 use Rattle.obs_show.specs.Limits.{show_fault as limit_of_text}
@@ -21,10 +21,10 @@ use Rattle.obs_show.specs.Table.{table}
 use Rattle.c2po_compile.specs.declared.fault.CompileFault.{CompileFault}
 use Rattle.c2po_compile.specs.declared.fault.Refusal.TheVariants.{Wide}
 use Rattle.c2po_compile.specs.Front.{first_refusal}
-use Rattle.c2po_compile.specs.Compiled.{image_of_text}
+use Rattle.c2po_compile.specs.Compiled.{compile_text}
 use Rattle.c2po_compile.specs.Refusals.{unless_refused}
 use Rattle.c2po_compile.specs.Image.{image}
-use Rattle.c2po_compile.specs.Simplified.{simple_image, simple_image_of_text}
+use Rattle.c2po_compile.specs.Simplified.{simplify_over, compile_simplified}
 use Rattle.tool_words.specs.declared.status.Status.{Status}
 use Rattle.tool_words.specs.declared.status.Status.TheVariants.{Refused, BadProgram, TextTooLong, Memory}
 use Rattle.tool_words.specs.Files.{file_status}
@@ -46,14 +46,14 @@ compiled_bytes tabled (Ok program) = Ok (written_as tabled program)
 compiled_bytes tabled (Err fault) = Err (compile_status fault)
 
 -- the image over columns, plain or in simplified form
-abbrev pub image_by : Bool → Columns → List Signal → List Asked → Program
-image_by false columns signals outs = image columns signals outs
-image_by true columns signals outs = simple_image columns signals outs
+abbrev pub compile_as : Bool → Columns → List Signal → List Asked → Program
+compile_as false columns signals outs = image columns signals outs
+compile_as true columns signals outs = simplify_over columns signals outs
 
 -- the program of a text and a header line in the same two forms
 abbrev pub asked_program : Bool → List ℕ → Option (List ℕ) → Result Program CompileFault
-asked_program false text header = image_of_text text header
-asked_program true text header = simple_image_of_text text header
+asked_program false text header = compile_text text header
+asked_program true text header = compile_simplified text header
 
 -- what is written of a text and a header line
 abbrev pub text_bytes : Form → List ℕ → Option (List ℕ) → Result (List ℕ) Status

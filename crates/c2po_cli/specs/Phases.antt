@@ -20,7 +20,7 @@ use Rattle.c2po_cli.specs.Asking.{MakeAsked, read_names, place_named}
 use Rattle.c2po_cli.specs.Images.{WritesImage}
 use Rattle.c2po_cli.specs.Made.{made_bytes, first_line, made_of_text, opened_as, text_within}
 use Rattle.c2po_cli.specs.Upgrading.{IsUpgraded}
-use Rattle.obs_files.specs.Faults.{opened}
+use Rattle.obs_binary.specs.Faults.{opened}
 use Rattle.c2po_cli.specs.Run.{seen, is_tried, HasFaultlessText, MakesFile, MakeOutcome, WritesAttached}
 
 -- a status by which a file, a header or a limit refuses, that of a text that is to be written too, or out of memory

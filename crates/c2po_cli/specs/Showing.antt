@@ -5,12 +5,12 @@ use Rattle.mltl_base.specs.declared.program.Columns.{Columns}
 use Rattle.mltl_base.specs.declared.program.Program.{Program}
 use Rattle.tool_io.specs.declared.host.Place.TheVariants.{Out}
 use Rattle.tool_io.specs.Log.{Event, given}
-use Rattle.obs_files.specs.Layout.{spelling}
-use Rattle.obs_files.specs.Faults.{opened}
+use Rattle.obs_binary.specs.Layout.{spelling}
+use Rattle.obs_binary.specs.Faults.{opened}
 use Rattle.obs_show.specs.Text.{text as text_of}
 use Rattle.obs_verify.specs.Upgrade.{up}
 use Rattle.c2po_compile.specs.Front.{first_refusal}
-use Rattle.c2po_compile.specs.ImageFiles.{IsImageFile, image_in, stored_columns}
+use Rattle.c2po_compile.specs.ImageFiles.{IsImageFile, compile_over, stored_columns}
 use Rattle.c2po_compile.specs.Simplified.{IsSimpleImageFile}
 use Rattle.tool_words.specs.declared.status.Status.{Status}
 use Rattle.tool_words.specs.declared.status.Status.TheVariants.{Done}
@@ -23,7 +23,7 @@ use Rattle.c2po_cli.specs.Run.{file_in}
 -- bytes of the program's file
 pub record Returns (program : Program) (file written : List ℕ) : Type 0 where
   pub faultless : first_refusal written ≡ None
-  pub image : spelling (image_in written (stored_columns program)) ≡ file
+  pub image : spelling (compile_over written (stored_columns program)) ≡ file
 
 -- What is written of a file is the text of its program in version 2. Where the file is the image of a specification,
 -- plain or in simplified form, the text compiles to the image again.
@@ -32,7 +32,7 @@ pub record IsShown (file written : List ℕ) : Type 0 where
   pub opens : opened file ≡ Ok program
   pub text : written ≡ text_of (up program)
   pub image : (source : List ℕ) (columns : Columns) → IsImageFile source columns file → Returns program file written
-  pub simple_image : (source : List ℕ) (columns : Columns) → IsSimpleImageFile source columns file
+  pub simplify_over : (source : List ℕ) (columns : Columns) → IsSimpleImageFile source columns file
       → Returns program file written
 
 -- what is written of a file that is shown; of others nothing is said here

@@ -3,7 +3,7 @@
 use Rattle.std.specs.Prelude.{◌≡◌, ℕ, Ok, List}
 use Rattle.mltl_base.specs.declared.program.Program.{Program}
 use Rattle.mltl_base.specs.Programs.{outputs, output_names}
-use Rattle.obs_files.specs.Faults.{opened}
+use Rattle.obs_binary.specs.Faults.{opened}
 use Rattle.obs_verify.specs.Upgrade.{up}
 use Rattle.obs_verify.specs.WellFormed.{IsWellFormed}
 

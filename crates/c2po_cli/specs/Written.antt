@@ -4,8 +4,8 @@ use Rattle.std.specs.Prelude.{◌≡◌, ◌≤◌, ℕ, Bool, true, Option, Ok,
 use Rattle.mltl_base.specs.declared.program.Program.{Program}
 use Rattle.tool_io.specs.declared.host.Place.TheVariants.{Out}
 use Rattle.tool_io.specs.Log.{Event, given}
-use Rattle.c2po_compile.specs.Compiled.{image_of_text}
-use Rattle.c2po_compile.specs.Simplified.{simple_image_of_text, slots_in}
+use Rattle.c2po_compile.specs.Compiled.{compile_text}
+use Rattle.c2po_compile.specs.Simplified.{compile_simplified, slots_in}
 use Rattle.tool_words.specs.declared.status.Status.{Status}
 use Rattle.tool_words.specs.declared.status.Status.TheVariants.{Done}
 use Rattle.c2po_cli.specs.declared.make.Form.{Form}
@@ -27,8 +27,8 @@ UpgradesProgram other answer events = ⊤
 pub record IsNoLarger (tabled : Bool) (text : List ℕ) (header : Option (List ℕ)) (written : List ℕ) : Type 0 where
   pub simple : Program
   pub plain : Program
-  pub simple_is : simple_image_of_text text header ≡ Ok simple
-  pub plain_is : image_of_text text header ≡ Ok plain
+  pub simple_is : compile_simplified text header ≡ Ok simple
+  pub plain_is : compile_text text header ≡ Ok plain
   pub bytes : written ≡ written_as tabled simple
   pub slots : slots_in simple ≤ slots_in plain
 

@@ -4,8 +4,8 @@ ghost use Rattle.std.specs.Prelude.{◌≡◌, ◌≢◌, ◌<◌, Err, IfErr, I
 ghost use Rattle.std.specs.Option.{ForSome, option_copied};
 ghost use Rattle.mltl_base.specs.declared.limits.TheConstants.{MAX_LINE_BYTES};
 ghost use Rattle.c2po_ast.specs.ItemShape.{spec_shape};
-ghost use Rattle.obs_files.specs.Layout.{IsEncodable};
-ghost use Rattle.obs_files.specs.Names.{NamesFit};
+ghost use Rattle.obs_binary.specs.Layout.{IsEncodable};
+ghost use Rattle.obs_binary.specs.Names.{NamesFit};
 ghost use Rattle.c2po_types.specs.Signals.{signals_of};
 ghost use Rattle.c2po_types.specs.Outputs.{outputs_of};
 ghost use Rattle.c2po_compile.specs.Front.{first_refusal, items_in};
@@ -14,13 +14,13 @@ ghost use Rattle.c2po_compile.specs.Compiled.{limit_over};
 ghost use Rattle.c2po_compile.specs.Refusals.{IsFirstRefusal};
 ghost use Rattle.c2po_cli.specs.Phases.{IsRefusal, RefusesAlone};
 ghost use Rattle.c2po_cli.specs.Images.{WritesImage};
-ghost use Rattle.c2po_cli.specs.Made.{image_by, text_bytes, written_as};
+ghost use Rattle.c2po_cli.specs.Made.{compile_as, text_bytes, written_as};
 
 use crate::make::Form;
 use c2po_compile::{CompileFault, back, back_simple, columns_of};
 use c2po_types::TypedSpec;
 use mltl_base::Columns;
-use obs_files::image;
+use obs_binary::image;
 use obs_show::instruction_table;
 use obs_verify::Checked;
 use std::alloc::Global;
@@ -50,7 +50,7 @@ fn program_of(
 ) -> Result<Checked, CompileFault>
     requires columns { AreColumnsFor (length (signals_of (spec_shape spec.now))) columns.now }
     ensures image { IfOk result (λ checked. checked
-        ≡ image_by simplify columns.now
+        ≡ compile_as simplify columns.now
         (signals_of (spec_shape spec.now)) (outputs_of (spec_shape spec.now))) }
     ensures within { OnOk result (limit_over columns.now (spec_shape spec.now) ≡ None) }
     ensures refused { IfErr result

@@ -1,8 +1,8 @@
 //! From the bytes of a program file to what is written of its program in version 2: the bytes, or the text.
 
 ghost use Rattle.std.specs.Prelude.{◌≡◌, ◌≢◌, Err, IfErr, IfOk, None, Ok, OnOk};
-ghost use Rattle.obs_files.specs.Faults.{opened};
-ghost use Rattle.obs_files.specs.Names.{NamesFit};
+ghost use Rattle.obs_binary.specs.Faults.{opened};
+ghost use Rattle.obs_binary.specs.Names.{NamesFit};
 ghost use Rattle.obs_verify.specs.Upgrade.{clash_of, up};
 ghost use Rattle.c2po_cli.specs.Made.{Making, made_bytes, opened_as, raised_as, show_status, text_within};
 ghost use Rattle.c2po_cli.specs.Phases.{RefusesAlone};
@@ -11,7 +11,7 @@ ghost use Rattle.c2po_cli.specs.Upgrading.{IsRaisedFrom, IsUpgraded};
 use crate::compiled::written;
 use c2po_compile::Refusal;
 use mltl_base::Part;
-use obs_files::{ProgramFault, open, upgraded_names_fit};
+use obs_binary::{ProgramFault, open, upgraded_names_fit};
 use obs_show::{ShowFault, show};
 use obs_verify::{Checked, UpgradeFault, upgrade};
 use std::alloc::Global;

@@ -23,9 +23,9 @@ use Rattle.mltl_base.specs.Subformulas.{Asked, HasListsOf, IsGraphOf, formulas_o
 use Rattle.mltl_base.proofs.Unfolding.{Deep, Each, IsClosedAfter, fold_all, fold_closed}
 use Rattle.mltl_base.proofs.Booleans.{HasAtom, fold_have, fold_whole}
 use Rattle.mltl_base.proofs.Graphs.{bz_list_unfolds}
-use Rattle.c2po_nodes.specs.declared.nodes.Expanded.{Expanded}
-use Rattle.c2po_nodes.specs.Nodes.{trees}
-use Rattle.c2po_nodes.specs.Outputs.{asked, asked_by, asked_in, asked_over}
+use Rattle.c2po_ast.specs.declared.nodes.Expanded.{Expanded}
+use Rattle.c2po_ast.specs.Nodes.{trees}
+use Rattle.c2po_ast.specs.Outputs.{asked, asked_by, asked_in, asked_over}
 use Rattle.mltl_base.specs.declared.signal.Signal.{Signal}
 use Rattle.mltl_base.proofs.Picking.{all_listed, cores_atoms, cores_of_engine}
 use Rattle.core_graph.specs.declared.graph.GraphFault.{GraphFault}

@@ -9,7 +9,7 @@ use Rattle.mltl_base.specs.declared.limits.TheConstants.{MAX_SIGNALS}
 use Rattle.mltl_base.specs.declared.signal.Signal.{Signal}
 use Rattle.obs_verify.specs.Bound.{AreDifferent}
 use Rattle.mltl_base.specs.Kinds.{HaveOwnNames}
-use Rattle.trace_feed.specs.Header.{AreDifferentNames, columns_in_order}
+use Rattle.trace_columns.specs.Header.{AreDifferentNames, columns_in_order}
 use Rattle.c2po_compile.specs.Image.{AreColumnsFor}
 
 -- a signal's name at a place

@@ -18,3 +18,4 @@ pub mod Columns
 pub mod Rules
 pub mod Building
 pub mod Tenses
+pub mod ByRules

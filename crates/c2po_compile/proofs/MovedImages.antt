@@ -15,8 +15,8 @@ use Rattle.mltl_base.specs.Programs.{outputs, output_names}
 use Rattle.mltl_base.specs.Reports.{Output, formula, contract, reports}
 use Rattle.mltl_base.specs.Subformulas.{Asked, IsTensed, core_output, formulas_of}
 use Rattle.mltl_base.proofs.Unfolding.{Each, each_from_all}
-use Rattle.c2po_nodes.specs.Outputs.{asked_over, output_over}
-use Rattle.obs_files.specs.Layout as binary
+use Rattle.c2po_ast.specs.Outputs.{asked_over, output_over}
+use Rattle.obs_binary.specs.Layout as binary
 use Rattle.obs_verify.specs.Bound.{AreDifferent, bound, bound_signals, moved}
 use Rattle.obs_verify.specs.Layout.{HasLayout}
 use Rattle.obs_verify.specs.WellFormed.{IsWellFormed}
@@ -29,7 +29,7 @@ use Rattle.set_expand.proofs.Signalling.{outputs-read}
 use Rattle.c2po_compile.specs.Compiled.{outputs_in, signals_in}
 use Rattle.c2po_compile.specs.Front.{items_in, first_refusal}
 use Rattle.c2po_compile.specs.Image.{AreColumnsFor, image, plain_outputs}
-use Rattle.c2po_compile.specs.ImageFiles.{CanMove, image_in, moved_image}
+use Rattle.c2po_compile.specs.ImageFiles.{CanMove, compile_over, compile_and_move}
 use Rattle.c2po_compile.proofs.ImageLaws.{image_of}
 use Rattle.c2po_compile.proofs.TellingLaws.{tensed}
 
@@ -191,24 +191,24 @@ moved_image_outputs signals outs old new tenses reads serve one_each layout well
     ∙ outputs_new g (kinds_of signals) old.of_signal new.of_signal (signal_moves signals old.of_signal new.of_signal serve.one_each one_each serve.different) outs (each_from_all (ReadsSignals (kinds_of signals)) outs reads)
     ∙ sym (image_unfolds signals new outs (image new signals outs) tenses (image_of new signals outs))
 
-pub moved_outputs : (text : List ℕ) (old new : Columns) → CanMove text old new → outputs (moved_image text old new) ≡ outputs (image_in text new)
+pub moved_outputs : (text : List ℕ) (old new : Columns) → CanMove text old new → outputs (compile_and_move text old new) ≡ outputs (compile_over text new)
 moved_outputs text old new h =
     moved_image_outputs (signals_in text) (outputs_in text) old new (tensed text h.faultless) (outputs-read (items_in text)) h.serve h.one_each h.layout h.well_formed
 
 -- the image tells what the text's outputs tell over its columns
 pub image_reports : (style : Style) (text : List ℕ) (columns : Columns) (rows : List Row) → first_refusal text ≡ None
-    → reports style (outputs (image_in text columns)) rows ≡ reports style (plain_outputs columns (outputs_in text)) rows
+    → reports style (outputs (compile_over text columns)) rows ≡ reports style (plain_outputs columns (outputs_in text)) rows
 image_reports style text columns rows faultless =
-    image_tells style (signals_in text) columns (outputs_in text) (image_in text columns) rows (tensed text faultless) (image_of columns (signals_in text) (outputs_in text))
+    image_tells style (signals_in text) columns (outputs_in text) (compile_over text columns) rows (tensed text faultless) (image_of columns (signals_in text) (outputs_in text))
 
-pub image_called : (text : List ℕ) (columns : Columns) → output_names (image_in text columns) ≡ map (λ (a : Asked). a.name) (outputs_in text)
-image_called text columns = image_names (signals_in text) columns (outputs_in text) (image_in text columns) (image_of columns (signals_in text) (outputs_in text))
+pub image_called : (text : List ℕ) (columns : Columns) → output_names (compile_over text columns) ≡ map (λ (a : Asked). a.name) (outputs_in text)
+image_called text columns = image_names (signals_in text) columns (outputs_in text) (compile_over text columns) (image_of columns (signals_in text) (outputs_in text))
 
 -- and so does an image whose signals are moved
 pub moved_reports : (style : Style) (text : List ℕ) (old new : Columns) (rows : List Row) → CanMove text old new
-    → reports style (outputs (moved_image text old new)) rows ≡ reports style (plain_outputs new (outputs_in text)) rows
+    → reports style (outputs (compile_and_move text old new)) rows ≡ reports style (plain_outputs new (outputs_in text)) rows
 moved_reports style text old new rows h =
     ap (λ (outs : List Output). reports style outs rows) (moved_outputs text old new h) ∙ image_reports style text new rows h.faultless
 
-pub moved_called : (text : List ℕ) (old new : Columns) → output_names (moved_image text old new) ≡ map (λ (a : Asked). a.name) (outputs_in text)
+pub moved_called : (text : List ℕ) (old new : Columns) → output_names (compile_and_move text old new) ≡ map (λ (a : Asked). a.name) (outputs_in text)
 moved_called text old new = image_called text old

@@ -13,7 +13,7 @@ use Rattle.c2po_ast.specs.Names.{IsPlainName, ArePlain, IsPlainBody, ArePlainIte
 use Rattle.mltl_base.specs.declared.signal.Signal.{Signal}
 use Rattle.c2po_types.specs.Signals.{is_bool, body_signals, signals_of}
 use Rattle.mltl_base.specs.Letters.{is_in_word}
-use Rattle.obs_files.specs.Layout.{signal_name}
+use Rattle.obs_binary.specs.Layout.{signal_name}
 use Rattle.c2po_compile.specs.Images.{stored_signals}
 
 -- a plain name has letters alone

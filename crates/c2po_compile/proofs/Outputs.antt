@@ -8,11 +8,11 @@ use Rattle.mltl_base.specs.Subformulas.{Asked, cores_of_output, formulas_of, all
 use Rattle.mltl_base.specs.Kinds.{ReadsKinds, ReadsSignals}
 use Rattle.mltl_base.proofs.Unfolding.{Deep, Each, each_from_all}
 use Rattle.mltl_base.proofs.Members.{each_append}
-use Rattle.c2po_nodes.specs.Faults.{HasRanges, formula_fault}
-use Rattle.c2po_nodes.specs.declared.nodes.PlainOut.{PlainOut}
-use Rattle.c2po_nodes.specs.declared.nodes.PlainOut.TheVariants as out
-use Rattle.c2po_nodes.specs.Nodes.{Tree, IsBounded}
-use Rattle.c2po_nodes.specs.Outputs.{asked_by, asked_over, output_over}
+use Rattle.c2po_ast.specs.Faults.{HasRanges, formula_fault}
+use Rattle.c2po_ast.specs.declared.nodes.PlainOut.{PlainOut}
+use Rattle.c2po_ast.specs.declared.nodes.PlainOut.TheVariants as out
+use Rattle.c2po_ast.specs.Nodes.{Tree, IsBounded}
+use Rattle.c2po_ast.specs.Outputs.{asked_by, asked_over, output_over}
 use Rattle.c2po_compile.proofs.Parts.{InAtom}
 use Rattle.c2po_compile.proofs.Cores.{AtHead, core_deep}
 use Rattle.c2po_compile.proofs.Reading.{IsReadable, AreOfKinds, formula_reads, atom_turns}

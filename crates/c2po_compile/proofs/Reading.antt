@@ -9,10 +9,10 @@ use Rattle.mltl_base.specs.Formula.{Formula, truth as always, falsity, atom, neg
 use Rattle.mltl_base.specs.Programs.{Expression, whole, truth}
 use Rattle.mltl_base.specs.Ranges.{range, negated, summed, lessened, multiplied, divided, left_over, over, over_both, over_divisor}
 use Rattle.mltl_base.proofs.Unfolding.{Deep}
-use Rattle.c2po_nodes.specs.Faults.{why_none, or_later, term_fault, atom_fault, formula_fault}
+use Rattle.c2po_ast.specs.Faults.{why_none, or_later, term_fault, atom_fault, formula_fault}
 use Rattle.obs_verify.specs.WellFormed.{is_column_of}
 use Rattle.mltl_base.specs.Kinds.{ReadsWholes, AtomReadsKinds, ReadsKinds}
-use Rattle.c2po_nodes.proofs.NoFaults.{neither, over_none, both_none, divisor_none}
+use Rattle.c2po_ast.proofs.NoFaults.{neither, over_none, both_none, divisor_none}
 use Rattle.c2po_compile.proofs.Parts.{InTerm, InAtom}
 use Rattle.c2po_compile.proofs.Cores.{Throughout, AtHead}
 

@@ -24,8 +24,8 @@ use Rattle.mltl_base.proofs.Sameness.{same_sound, same_self, same_expression_sou
 use Rattle.mltl_base.proofs.Listing.{place_append, place_get}
 use Rattle.mltl_base.proofs.Unfolding.{Each, Has, HasExpression, IsClosedAfter}
 use Rattle.mltl_base.proofs.Booleans.{HasAtom, HasParts, IsWholeAfter}
-use Rattle.c2po_nodes.specs.Faults.{why_none}
-use Rattle.c2po_nodes.specs.Nodes.{IsBounded}
+use Rattle.c2po_ast.specs.Faults.{why_none}
+use Rattle.c2po_ast.specs.Nodes.{IsBounded}
 use Rattle.obs_verify.specs.declared.fault.VerifyFault.TheVariants.{Operand, Interval as BadInterval, Output as BadOutput}
 use Rattle.obs_verify.specs.WellFormed.{bz_fault, first_in, ft_fault, has_operands, is_truth, is_whole, is_whole_before, is_window, output_fault, pt_fault, no_range_fault, reports_within, size_fault}
 use Rattle.obs_verify.proofs.RuleLaws.{unless_eq}

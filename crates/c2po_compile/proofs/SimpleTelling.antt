@@ -23,13 +23,13 @@ use Rattle.mltl_simplify.proofs.Delays.{simp_wpd}
 use Rattle.mltl_simplify.proofs.Ending.{simple_tensed}
 use Rattle.mltl_simplify.proofs.Meaning.{simp_sat}
 use Rattle.mltl_simplify.proofs.Signals.{simple_kinds, simple_over}
-use Rattle.c2po_nodes.specs.Outputs.{asked_over, output_over}
+use Rattle.c2po_ast.specs.Outputs.{asked_over, output_over}
 use Rattle.c2po_compile.proofs.Tenses.{image_names, image_tells}
 use Rattle.set_expand.proofs.Signalling.{outputs-read}
 use Rattle.c2po_compile.specs.Compiled.{columns_by, outputs_in, signals_in}
 use Rattle.c2po_compile.specs.Front.{first_refusal, items_in}
 use Rattle.c2po_compile.specs.Image.{image, over_columns, plain_outputs}
-use Rattle.c2po_compile.specs.Simplified.{CanMoveSimple, TellsSettled, are_smaller, moved_simple_image, simple_image_in, simple_image_of_text, smaller_outputs}
+use Rattle.c2po_compile.specs.Simplified.{CanMoveSimple, TellsSettled, are_smaller, compile_simplified_and_move, compile_simplified_over, compile_simplified, smaller_outputs}
 use Rattle.c2po_compile.proofs.ImageLaws.{image_of}
 use Rattle.c2po_compile.proofs.MovedImages.{moved_image_outputs}
 use Rattle.c2po_compile.proofs.OrderedValues.{IsOrderedOutput, outputs_ordered}
@@ -154,26 +154,26 @@ text_ordered text = outputs_ordered (items_in text)
 
 -- the simplified image of a text tells its plain outputs
 pub simple_image_told : (style : Style) (text : List ℕ) (columns : Columns) (rows : List Row) (k : ℕ) (o : Output) → first_refusal text ≡ None
-    → slice_get (plain_outputs columns (outputs_in text)) k ≡ Some o → TellsSettled style (simple_image_in text columns) k o rows
+    → slice_get (plain_outputs columns (outputs_in text)) k ≡ Some o → TellsSettled style (compile_simplified_over text columns) k o rows
 simple_image_told style text columns rows k o none at =
     let outs = smaller_outputs columns (outputs_in text) in
-    smaller_told style (simple_image_in text columns) columns columns (outputs_in text) rows k o (text_ordered text) at
-    (image_tells style (signals_in text) columns outs (simple_image_in text columns) rows (smaller_tensed columns (outputs_in text) (tensed text none)) (image_of columns (signals_in text) outs))
+    smaller_told style (compile_simplified_over text columns) columns columns (outputs_in text) rows k o (text_ordered text) at
+    (image_tells style (signals_in text) columns outs (compile_simplified_over text columns) rows (smaller_tensed columns (outputs_in text) (tensed text none)) (image_of columns (signals_in text) outs))
 
 pub simple_told : (style : Style) (text : List ℕ) (header : Option (List ℕ)) (columns : Columns) (p : Program) (rows : List Row) (k : ℕ) (o : Output)
-    → simple_image_of_text text header ≡ Ok p → columns_by (signals_in text) header ≡ Ok columns → slice_get (plain_outputs columns (outputs_in text)) k ≡ Some o
+    → compile_simplified text header ≡ Ok p → columns_by (signals_in text) header ≡ Ok columns → slice_get (plain_outputs columns (outputs_in text)) k ≡ Some o
     → TellsSettled style p k o rows
 simple_told style text header columns p rows k o is found at =
     let has = simple_found text header columns p is found in
     subst (λ q. TellsSettled style q k o rows) (sym has.1) (simple_image_told style text columns rows k o has.0 at)
 
 pub moved_told : (style : Style) (text : List ℕ) (old new : Columns) (rows : List Row) (k : ℕ) (o : Output) → CanMoveSimple text old new
-    → slice_get (plain_outputs new (outputs_in text)) k ≡ Some o → TellsSettled style (moved_simple_image text old new) k o rows
+    → slice_get (plain_outputs new (outputs_in text)) k ≡ Some o → TellsSettled style (compile_simplified_and_move text old new) k o rows
 moved_told style text old new rows k o can at =
     let outs = smaller_outputs old (outputs_in text) in
     let signals = signals_in text in
     let tenses = smaller_tensed old (outputs_in text) (tensed text can.faultless) in
-    smaller_told style (moved_simple_image text old new) old new (outputs_in text) rows k o (text_ordered text) at
+    smaller_told style (compile_simplified_and_move text old new) old new (outputs_in text) rows k o (text_ordered text) at
     (ap (λ (os : List Output). reports style os rows)
     (moved_image_outputs signals outs old new tenses (smaller_reads old signals (outputs_in text) (outputs-read (items_in text))) can.serve can.one_each can.layout can.well_formed)
     ∙ image_tells style signals new outs (image new signals outs) rows tenses (image_of new signals outs))
@@ -183,16 +183,16 @@ names_simple : (outs : List Asked) → map (λ (a : Asked). a.name) (simple_outp
 names_simple [] = refl
 names_simple (a ∷ outs) = ap (λ names. a.name ∷ names) (names_simple outs)
 
-pub simple_image_called : (text : List ℕ) (columns : Columns) → output_names (simple_image_in text columns) ≡ map (λ (a : Asked). a.name) (outputs_in text)
+pub simple_image_called : (text : List ℕ) (columns : Columns) → output_names (compile_simplified_over text columns) ≡ map (λ (a : Asked). a.name) (outputs_in text)
 simple_image_called text columns =
     let outs = smaller_outputs columns (outputs_in text) in
-    image_names (signals_in text) columns outs (simple_image_in text columns) (image_of columns (signals_in text) outs)
+    image_names (signals_in text) columns outs (compile_simplified_over text columns) (image_of columns (signals_in text) outs)
     ∙ smaller_has (λ xs. map (λ (a : Asked). a.name) xs ≡ map (λ (a : Asked). a.name) (outputs_in text)) columns (outputs_in text) (names_simple (outputs_in text)) refl
 
-pub simple_named : (text : List ℕ) (header : Option (List ℕ)) (columns : Columns) (p : Program) → simple_image_of_text text header ≡ Ok p → columns_by (signals_in text) header ≡ Ok columns
+pub simple_named : (text : List ℕ) (header : Option (List ℕ)) (columns : Columns) (p : Program) → compile_simplified text header ≡ Ok p → columns_by (signals_in text) header ≡ Ok columns
     → output_names p ≡ map (λ (a : Asked). a.name) (outputs_in text)
 simple_named text header columns p is found = ap output_names (simple_found text header columns p is found).1 ∙ simple_image_called text columns
 
 -- moved to other columns too
-pub moved_simple_called : (text : List ℕ) (old new : Columns) → output_names (moved_simple_image text old new) ≡ map (λ (a : Asked). a.name) (outputs_in text)
+pub moved_simple_called : (text : List ℕ) (old new : Columns) → output_names (compile_simplified_and_move text old new) ≡ map (λ (a : Asked). a.name) (outputs_in text)
 moved_simple_called text old new = simple_image_called text old

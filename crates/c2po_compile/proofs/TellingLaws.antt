@@ -16,7 +16,7 @@ use Rattle.c2po_parse.specs.Specification.{spec_of}
 use Rattle.c2po_types.specs.declared.fault.TypeFault.{TypeFault}
 use Rattle.mltl_base.specs.declared.signal.Signal.{Signal}
 use Rattle.c2po_types.specs.FirstFault.{first_fault}
-use Rattle.trace_feed.specs.declared.header_fault.HeaderFault.{HeaderFault}
+use Rattle.trace_columns.specs.declared.header_fault.HeaderFault.{HeaderFault}
 use Rattle.c2po_types.proofs.Faultless.{faultless-tensed}
 use Rattle.c2po_compile.proofs.Tenses.{image_unfolds, image_names, image_tells}
 use Rattle.c2po_compile.specs.declared.fault.CompileFault.{CompileFault}
@@ -24,7 +24,7 @@ use Rattle.c2po_compile.specs.Refusals.{token_refusal, tree_refusal, check_refus
 use Rattle.c2po_compile.specs.Front.{tokens_in, items_in, refusal_in, first_refusal}
 use Rattle.c2po_compile.specs.Limits.{limit_refusal}
 use Rattle.c2po_compile.specs.Image.{over_columns, plain_outputs, image}
-use Rattle.c2po_compile.specs.Compiled.{signals_in, outputs_in, columns_by, image_within, image_under, image_of_text, IsImageUnder}
+use Rattle.c2po_compile.specs.Compiled.{signals_in, outputs_in, columns_by, compile_within_limits, compile_under_header, compile_text, IsImageUnder}
 use Rattle.c2po_compile.proofs.ImageLaws.{image_of}
 
 -- nothing first, and nothing then
@@ -51,31 +51,31 @@ not_refused None found value h = (refl, h)
 not_refused (Some refusal) found value h = absurd (cc)
 
 -- a program that a text and a header line stand for is the image over their columns
-pub image_found : (text : List ℕ) (header : Option (List ℕ)) (columns : Columns) (p : Program) → image_of_text text header ≡ Ok p
+pub image_found : (text : List ℕ) (header : Option (List ℕ)) (columns : Columns) (p : Program) → compile_text text header ≡ Ok p
     → columns_by (signals_in text) header ≡ Ok columns → (first_refusal text ≡ None) × (p ≡ image columns (signals_in text) (outputs_in text))
-unfolding image_of_text
+unfolding compile_text
 image_found text header columns p h k =
-    let all = not_refused (first_refusal text) (image_under (signals_in text) (outputs_in text) (columns_by (signals_in text) header)) p h in
-    let over : image_within (signals_in text) (outputs_in text) columns ≡ Ok p = ap (image_under (signals_in text) (outputs_in text)) (sym k) ∙ all.1 in
+    let all = not_refused (first_refusal text) (compile_under_header (signals_in text) (outputs_in text) (columns_by (signals_in text) header)) p h in
+    let over : compile_within_limits (signals_in text) (outputs_in text) columns ≡ Ok p = ap (compile_under_header (signals_in text) (outputs_in text)) (sym k) ∙ all.1 in
     let within = not_refused (limit_refusal (over_columns columns (outputs_in text))) (Ok (image columns (signals_in text) (outputs_in text))) p over in
     let is : p ≡ image columns (signals_in text) (outputs_in text) = (let e = within.1 in cc) in
     (all.0, is)
 
-columns_found : (signals : List Signal) (outs : List Asked) (found : Result Columns HeaderFault) (p : Program) → image_under signals outs found ≡ Ok p
+columns_found : (signals : List Signal) (outs : List Asked) (found : Result Columns HeaderFault) (p : Program) → compile_under_header signals outs found ≡ Ok p
     → (columns : Columns) × (found ≡ Ok columns)
 columns_found signals outs (Ok columns) p h = (columns, refl)
 columns_found signals outs (Err fault) p h = absurd (cc)
 
 -- and it has such columns
-pub image_under_header : (text : List ℕ) (header : Option (List ℕ)) (p : Program) → image_of_text text header ≡ Ok p → IsImageUnder text header p
-unfolding image_of_text
+pub image_under_header : (text : List ℕ) (header : Option (List ℕ)) (p : Program) → compile_text text header ≡ Ok p → IsImageUnder text header p
+unfolding compile_text
 image_under_header text header p h =
-    let all = not_refused (first_refusal text) (image_under (signals_in text) (outputs_in text) (columns_by (signals_in text) header)) p h in
+    let all = not_refused (first_refusal text) (compile_under_header (signals_in text) (outputs_in text) (columns_by (signals_in text) header)) p h in
     let found = columns_found (signals_in text) (outputs_in text) (columns_by (signals_in text) header) p all.1 in
     record { columns = found.0; found = found.1; is_image = (image_found text header found.0 p h found.1).1 }
 
 pub text_reports : (style : Style) (text : List ℕ) (header : Option (List ℕ)) (columns : Columns) (p : Program) (rows : List Row)
-    → image_of_text text header ≡ Ok p → columns_by (signals_in text) header ≡ Ok columns
+    → compile_text text header ≡ Ok p → columns_by (signals_in text) header ≡ Ok columns
     → reports style (outputs p) rows ≡ reports style (plain_outputs columns (outputs_in text)) rows
 text_reports style text header columns p rows h k =
     let q = image_found text header columns p h k in
@@ -93,7 +93,7 @@ core_delays [] = refl
 core_delays (a ∷ outs) = ap₂ (λ n ns. n ∷ ns) (output_delay a.output) (core_delays outs)
 
 pub text_delays : (text : List ℕ) (header : Option (List ℕ)) (columns : Columns) (p : Program)
-    → image_of_text text header ≡ Ok p → columns_by (signals_in text) header ≡ Ok columns
+    → compile_text text header ≡ Ok p → columns_by (signals_in text) header ≡ Ok columns
     → map delay (outputs p) ≡ map delay (plain_outputs columns (outputs_in text))
 text_delays text header columns p h k =
     let q = image_found text header columns p h k in
@@ -103,7 +103,7 @@ text_delays text header columns p h k =
     ∙ core_delays (over_columns columns outs)
 
 pub text_names : (text : List ℕ) (header : Option (List ℕ)) (columns : Columns) (p : Program)
-    → image_of_text text header ≡ Ok p → columns_by (signals_in text) header ≡ Ok columns
+    → compile_text text header ≡ Ok p → columns_by (signals_in text) header ≡ Ok columns
     → output_names p ≡ map (λ a. a.name) (outputs_in text)
 text_names text header columns p h k =
     let q = image_found text header columns p h k in

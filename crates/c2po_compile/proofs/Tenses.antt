@@ -14,7 +14,7 @@ use Rattle.mltl_base.specs.Settled.{IsFuture, IsPast}
 use Rattle.mltl_base.specs.Subformulas.{Asked, IsOfTense, IsTensed, core_output, formulas_of}
 use Rattle.mltl_base.proofs.Unfolding.{Each, each_from_all}
 use Rattle.mltl_base.proofs.Graphs.{program_unfolds, program_names, program_tells}
-use Rattle.c2po_nodes.specs.Outputs.{asked_over, output_over}
+use Rattle.c2po_ast.specs.Outputs.{asked_over, output_over}
 use Rattle.mltl_base.proofs.Members.{all_from_each}
 use Rattle.mltl_base.specs.declared.signal.Signal.{Signal}
 use Rattle.c2po_compile.specs.Images.{IsImageOf}

@@ -9,10 +9,10 @@ use Rattle.mltl_base.specs.declared.operators.WindowOp.TheVariants as window
 use Rattle.mltl_base.specs.declared.operators.BetweenOp.TheVariants as between
 use Rattle.mltl_base.specs.Formula.{Formula}
 use Rattle.mltl_base.proofs.Unfolding.{Each, all_push}
-use Rattle.c2po_nodes.specs.declared.nodes.Plain.{Plain}
-use Rattle.c2po_nodes.specs.declared.nodes.Plain.TheVariants.{Truth, Not, Logic, Window, Between}
-use Rattle.c2po_nodes.specs.Nodes.{Tree, number, formula, node_formula, tree_of, trees, IsBounded, IsFormed, AreSound}
-use Rattle.c2po_nodes.proofs.Pushing.{trees_more}
+use Rattle.c2po_ast.specs.declared.nodes.Plain.{Plain}
+use Rattle.c2po_ast.specs.declared.nodes.Plain.TheVariants.{Truth, Not, Logic, Window, Between}
+use Rattle.c2po_ast.specs.Nodes.{Tree, number, formula, node_formula, tree_of, trees, IsBounded, IsFormed, AreSound}
+use Rattle.c2po_ast.proofs.Pushing.{trees_more}
 use Rattle.c2po_compile.proofs.Cores.{Throughout}
 
 -- all intervals of a formula are in bounds

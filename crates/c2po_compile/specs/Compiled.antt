@@ -8,8 +8,8 @@ use Rattle.mltl_base.specs.declared.signal.Signal.{Signal}
 use Rattle.c2po_ast.specs.ItemShape.{ItemShape}
 use Rattle.c2po_types.specs.Signals.{signals_of}
 use Rattle.c2po_types.specs.Outputs.{outputs_of}
-use Rattle.trace_feed.specs.declared.header_fault.HeaderFault.{HeaderFault}
-use Rattle.trace_feed.specs.Header.{header_meaning, columns_in_order}
+use Rattle.trace_columns.specs.declared.header_fault.HeaderFault.{HeaderFault}
+use Rattle.trace_columns.specs.Header.{header_meaning, columns_in_order}
 use Rattle.c2po_compile.specs.declared.fault.CompileFault.{CompileFault}
 use Rattle.c2po_compile.specs.Refusals.{header_refusal, unless_refused}
 use Rattle.c2po_compile.specs.Front.{items_in, first_refusal}
@@ -34,20 +34,20 @@ abbrev pub limit_over : Columns → List ItemShape → Option CompileFault
 limit_over columns items = limit_refusal (over_columns columns (outputs_of items))
 
 -- the image over columns, unless a limit is exceeded
-abbrev pub image_within : List Signal → List Asked → Columns → Result Program CompileFault
-image_within signals outs columns =
+abbrev pub compile_within_limits : List Signal → List Asked → Columns → Result Program CompileFault
+compile_within_limits signals outs columns =
     unless_refused (limit_refusal (over_columns columns outs)) (Ok (image columns signals outs))
 
 -- the same over the columns of a header, where it has no fault
-abbrev pub image_under : List Signal → List Asked → Result Columns HeaderFault → Result Program CompileFault
-image_under signals outs (Ok columns) = image_within signals outs columns
-image_under signals outs (Err fault) = Err (header_refusal fault)
+abbrev pub compile_under_header : List Signal → List Asked → Result Columns HeaderFault → Result Program CompileFault
+compile_under_header signals outs (Ok columns) = compile_within_limits signals outs columns
+compile_under_header signals outs (Err fault) = Err (header_refusal fault)
 
 -- the program of a text over the columns that a header line names, or over those of the order of declaration; else the
 -- first refusal: the text's, then the header's, then that of a limit
-unfoldable pub image_of_text : List ℕ → Option (List ℕ) → Result Program CompileFault
-image_of_text text header =
-    unless_refused (first_refusal text) (image_under (signals_in text) (outputs_in text)
+unfoldable pub compile_text : List ℕ → Option (List ℕ) → Result Program CompileFault
+compile_text text header =
+    unless_refused (first_refusal text) (compile_under_header (signals_in text) (outputs_in text)
     (columns_by (signals_in text) header))
 
 -- a program is the image of a text over the columns that a header line, or the order of declaration, gives its signals

@@ -4,9 +4,9 @@
 use Rattle.std.specs.Prelude.{◌≡◌, ◌<◌, ◌≤◌, List, length, All}
 use Rattle.mltl_base.specs.declared.limits.TheConstants.{MAX_SIGNALS}
 use Rattle.mltl_base.specs.declared.program.Columns.{Columns}
-use Rattle.c2po_nodes.specs.Faults.{HasRanges}
-use Rattle.c2po_nodes.specs.declared.nodes.Expanded.{Expanded}
-use Rattle.c2po_nodes.specs.Outputs.{IsSound, asked}
+use Rattle.c2po_ast.specs.Faults.{HasRanges}
+use Rattle.c2po_ast.specs.declared.nodes.Expanded.{Expanded}
+use Rattle.c2po_ast.specs.Outputs.{IsSound, asked}
 use Rattle.mltl_base.specs.declared.signal.Signal.{Signal}
 use Rattle.obs_verify.specs.Bound.{AreDifferent}
 use Rattle.mltl_base.specs.Kinds.{HaveOwnNames, ReadsSignals, kinds_of}

@@ -1,8 +1,8 @@
 -- Why a specification isn't compiled, in words.
 
 use Rattle.std.specs.Prelude.{ℕ, ◌==◌, if◌then◌else◌, List, [], ◌++◌, codes, decimal}
-use Rattle.trace_feed.specs.declared.header_fault.HeaderFault as header
-use Rattle.trace_feed.specs.HeaderTexts.{header_fault_text}
+use Rattle.trace_columns.specs.declared.header_fault.HeaderFault as header
+use Rattle.trace_columns.specs.HeaderTexts.{header_fault_text}
 use Rattle.c2po_compile.specs.declared.fault.CompileFault as fault
 use Rattle.c2po_compile.specs.declared.fault.HeaderWhy as why
 use Rattle.c2po_compile.specs.declared.fault.Refusal as refusal

@@ -7,7 +7,7 @@ use Rattle.mltl_base.specs.declared.program.Program.{Program}
 use Rattle.mltl_base.specs.Reports.{Output}
 use Rattle.mltl_base.specs.Queues.{queue_lengths, box_counts}
 use Rattle.mltl_base.specs.Subformulas.{Asked, bz_list, ft_list, pt_list, out_list}
-use Rattle.c2po_nodes.specs.Outputs.{asked_over}
+use Rattle.c2po_ast.specs.Outputs.{asked_over}
 use Rattle.mltl_base.specs.declared.signal.Signal.{Signal}
 use Rattle.obs_verify.specs.Bound.{AreDifferent}
 use Rattle.c2po_compile.specs.Images.{stored_signals}

@@ -3,7 +3,7 @@
 use Rattle.std.specs.Prelude.{◌≡◌, ℕ, List, [], None, length, map}
 use Rattle.mltl_base.specs.declared.program.Columns.{Columns}
 use Rattle.mltl_base.specs.declared.program.Program.{Program}
-use Rattle.obs_files.specs.Layout.{IsEncodable, spelling}
+use Rattle.obs_binary.specs.Layout.{IsEncodable, spelling}
 use Rattle.obs_verify.specs.Bound.{bound}
 use Rattle.obs_verify.specs.Layout.{HasLayout}
 use Rattle.obs_verify.specs.WellFormed.{IsWellFormed}
@@ -12,28 +12,28 @@ use Rattle.c2po_compile.specs.Image.{AreColumnsFor, image}
 use Rattle.c2po_compile.specs.Compiled.{outputs_in, signals_in}
 
 -- the image of a text over columns of its signals
-abbrev pub image_in : List ℕ → Columns → Program
-image_in text columns = image columns (signals_in text) (outputs_in text)
+abbrev pub compile_over : List ℕ → Columns → Program
+compile_over text columns = image columns (signals_in text) (outputs_in text)
 
 -- the same in version 1, which stores no signals
-abbrev pub first_image_in : List ℕ → Columns → Program
-first_image_in text columns = record (image_in text columns) { version = 1; signals = [] }
+abbrev pub compile_first_version : List ℕ → Columns → Program
+compile_first_version text columns = record (compile_over text columns) { version = 1; signals = [] }
 
 -- the columns that a program stores
 abbrev pub stored_columns : Program → Columns
 stored_columns program = record { width = program.width; of_signal = map (λ signal. signal.column) program.signals }
 
 -- the image whose signals are moved to further columns
-abbrev pub moved_image : List ℕ → Columns → Columns → Program
-moved_image text old new = bound (image_in text old) new.width new.of_signal
+abbrev pub compile_and_move : List ℕ → Columns → Columns → Program
+compile_and_move text old new = bound (compile_over text old) new.width new.of_signal
 
 -- a text without a fault, with columns over which the verifier finds no fault in its image, and with further columns,
 -- one for each signal
 pub record CanMove (text : List ℕ) (old new : Columns) : Type 0 where
   pub faultless : first_refusal text ≡ None
   pub serve : AreColumnsFor (length (signals_in text)) old
-  pub layout : HasLayout (image_in text old)
-  pub well_formed : IsWellFormed (image_in text old)
+  pub layout : HasLayout (compile_over text old)
+  pub well_formed : IsWellFormed (compile_over text old)
   pub one_each : length new.of_signal ≡ length (signals_in text)
 
 -- a file has the bytes of a program of a text without a fault, over columns of its signals
@@ -45,8 +45,8 @@ pub record IsFileOf (text : List ℕ) (columns : Columns) (program : Program) (f
 
 -- that program is the image
 abbrev pub IsImageFile : List ℕ → Columns → List ℕ → Type 0
-IsImageFile text columns file = IsFileOf text columns (image_in text columns) file
+IsImageFile text columns file = IsFileOf text columns (compile_over text columns) file
 
 -- or the image in version 1
 abbrev pub IsFirstImageFile : List ℕ → Columns → List ℕ → Type 0
-IsFirstImageFile text columns file = IsFileOf text columns (first_image_in text columns) file
+IsFirstImageFile text columns file = IsFileOf text columns (compile_first_version text columns) file

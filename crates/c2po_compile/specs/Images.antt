@@ -6,7 +6,7 @@ use Rattle.mltl_base.specs.declared.program.Program.{Program}
 use Rattle.mltl_base.specs.declared.program.StoredSignal.{StoredSignal}
 use Rattle.mltl_base.specs.Queues.{queue_lengths, box_counts}
 use Rattle.mltl_base.specs.Subformulas.{Asked, HasListsOf}
-use Rattle.c2po_nodes.specs.Outputs.{asked_over}
+use Rattle.c2po_ast.specs.Outputs.{asked_over}
 use Rattle.mltl_base.specs.declared.signal.Signal.{Signal}
 
 -- a signal with its column

@@ -7,7 +7,7 @@ pub mod ImageFiles
 pub mod Simplified
 pub mod Unfolded
 pub mod FaultTexts
-pub use Rattle.trace_feed.specs.HeaderTexts
+pub use Rattle.trace_columns.specs.HeaderTexts
 pub mod Conditions
 pub mod Images
 pub mod BuildLimits

@@ -9,8 +9,8 @@ use Rattle.c2po_types.specs.declared.fault.TypeFault.{TypeFault}
 use Rattle.c2po_types.specs.declared.fault.TypeFault.TheVariants as checked
 use Rattle.c2po_compile.specs.declared.build_fault.BuildFault.{BuildFault}
 use Rattle.c2po_compile.specs.declared.build_fault.BuildFault.TheVariants as built
-use Rattle.trace_feed.specs.declared.header_fault.HeaderFault.{HeaderFault}
-use Rattle.trace_feed.specs.declared.header_fault.HeaderFault.TheVariants as header
+use Rattle.trace_columns.specs.declared.header_fault.HeaderFault.{HeaderFault}
+use Rattle.trace_columns.specs.declared.header_fault.HeaderFault.TheVariants as header
 use Rattle.c2po_compile.specs.declared.fault.HeaderWhy.TheVariants as why
 use Rattle.c2po_compile.specs.declared.fault.Refusal.TheVariants.{Letter, LongWord, Number, TooManyTokens, Grammar}
 use Rattle.c2po_compile.specs.declared.fault.Refusal.TheVariants.{Unknown, Twice, Kind, Count, Field, Bounds, Signals}

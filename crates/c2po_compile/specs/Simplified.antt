@@ -17,9 +17,9 @@ use Rattle.c2po_compile.specs.BuildLimits.{slots_needed}
 use Rattle.obs_verify.specs.Bound.{bound}
 use Rattle.obs_verify.specs.Layout.{HasLayout}
 use Rattle.obs_verify.specs.WellFormed.{IsWellFormed}
-use Rattle.trace_feed.specs.declared.header_fault.HeaderFault.{HeaderFault}
+use Rattle.trace_columns.specs.declared.header_fault.HeaderFault.{HeaderFault}
 use Rattle.c2po_compile.specs.declared.fault.CompileFault.{CompileFault}
-use Rattle.c2po_compile.specs.Compiled.{signals_in, outputs_in, columns_by, image_of_text}
+use Rattle.c2po_compile.specs.Compiled.{signals_in, outputs_in, columns_by, compile_text}
 use Rattle.c2po_compile.specs.Front.{first_refusal}
 use Rattle.c2po_compile.specs.Image.{AreColumnsFor, image, over_columns}
 use Rattle.c2po_compile.specs.ImageFiles.{IsFileOf}
@@ -40,40 +40,40 @@ smaller_outputs columns outs =
     else outs
 
 -- the image of these
-abbrev pub simple_image : Columns → List Signal → List Asked → Program
-simple_image columns signals outs = image columns signals (smaller_outputs columns outs)
+abbrev pub simplify_over : Columns → List Signal → List Asked → Program
+simplify_over columns signals outs = image columns signals (smaller_outputs columns outs)
 
 -- that image, where there is an image over columns; else what refuses it
 abbrev pub simplified : List Signal → List Asked → Result Columns HeaderFault → Result Program CompileFault
     → Result Program CompileFault
-simplified signals outs (Ok columns) (Ok plain) = Ok (simple_image columns signals outs)
+simplified signals outs (Ok columns) (Ok plain) = Ok (simplify_over columns signals outs)
 simplified signals outs columns found = found
 
 -- the program of a text and a header line: refused as its image is, else the image of the smaller outputs
-unfoldable pub simple_image_of_text : List ℕ → Option (List ℕ) → Result Program CompileFault
-simple_image_of_text text header =
-    simplified (signals_in text) (outputs_in text) (columns_by (signals_in text) header) (image_of_text text header)
+unfoldable pub compile_simplified : List ℕ → Option (List ℕ) → Result Program CompileFault
+compile_simplified text header =
+    simplified (signals_in text) (outputs_in text) (columns_by (signals_in text) header) (compile_text text header)
 
 -- the image of a text in simplified form over columns of its signals
-abbrev pub simple_image_in : List ℕ → Columns → Program
-simple_image_in text columns = simple_image columns (signals_in text) (outputs_in text)
+abbrev pub compile_simplified_over : List ℕ → Columns → Program
+compile_simplified_over text columns = simplify_over columns (signals_in text) (outputs_in text)
 
 -- the same image, whose signals are moved to further columns
-abbrev pub moved_simple_image : List ℕ → Columns → Columns → Program
-moved_simple_image text old new = bound (simple_image_in text old) new.width new.of_signal
+abbrev pub compile_simplified_and_move : List ℕ → Columns → Columns → Program
+compile_simplified_and_move text old new = bound (compile_simplified_over text old) new.width new.of_signal
 
 -- a text without a fault, with columns over which the verifier finds no fault in that image, and with further columns,
 -- one for each signal
 pub record CanMoveSimple (text : List ℕ) (old new : Columns) : Type 0 where
   pub faultless : first_refusal text ≡ None
   pub serve : AreColumnsFor (length (signals_in text)) old
-  pub layout : HasLayout (simple_image_in text old)
-  pub well_formed : IsWellFormed (simple_image_in text old)
+  pub layout : HasLayout (compile_simplified_over text old)
+  pub well_formed : IsWellFormed (compile_simplified_over text old)
   pub one_each : length new.of_signal ≡ length (signals_in text)
 
 -- a file has the bytes of the image of a text in simplified form
 abbrev pub IsSimpleImageFile : List ℕ → Columns → List ℕ → Type 0
-IsSimpleImageFile text columns file = IsFileOf text columns (simple_image_in text columns) file
+IsSimpleImageFile text columns file = IsFileOf text columns (compile_simplified_over text columns) file
 
 -- what the reports of output k say of an output: later and later times, each with a word that is settled for it
 -- whatever rows follow, and none later than its worst-case delay

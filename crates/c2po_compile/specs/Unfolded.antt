@@ -3,9 +3,9 @@
 use Rattle.std.specs.Prelude.{List, length, All}
 use Rattle.mltl_base.specs.declared.signal.Signal.{Signal}
 use Rattle.mltl_base.specs.Kinds.{ReadsSignals, kinds_of}
-use Rattle.c2po_nodes.specs.declared.nodes.Expanded.{Expanded}
-use Rattle.c2po_nodes.specs.Faults.{HasRanges}
-use Rattle.c2po_nodes.specs.Outputs.{IsSound, asked}
+use Rattle.c2po_ast.specs.declared.nodes.Expanded.{Expanded}
+use Rattle.c2po_ast.specs.Faults.{HasRanges}
+use Rattle.c2po_ast.specs.Outputs.{IsSound, asked}
 use Rattle.c2po_types.specs.Outputs.{HasPlainName}
 
 -- outputs over signals: each reads signals that exist by their kinds, has ranges, and a name that can be written

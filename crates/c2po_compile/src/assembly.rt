@@ -1,29 +1,27 @@
-//! The back of the compiler: graph, sizes, stored signals, and the verifier.
+//! The back of the compiler: graph, delays and sizes, stored signals.
 
 ghost use Rattle.std.specs.Prelude.{◌≡◌, ◌≤◌, All, IfErr, IfOk, OnOk};
-ghost use Rattle.mltl_base.specs.Queues.{slot_count, worst_delays};
-ghost use Rattle.c2po_nodes.specs.Outputs.{asked, asked_in};
+ghost use Rattle.mltl_base.specs.Queues.{best_delays, slot_count, worst_delays};
+ghost use Rattle.c2po_ast.specs.Outputs.{asked, asked_in};
 ghost use Rattle.delay_sizes.specs.Sizing.{AreSizesOf, IsSizable};
-ghost use Rattle.obs_verify.specs.Layout.{HasLayout};
-ghost use Rattle.obs_verify.specs.WellFormed.{IsWellFormed};
 ghost use Rattle.c2po_compile.specs.Conditions.{IsBuildable};
 ghost use Rattle.c2po_compile.specs.Images.{IsImageOf};
 ghost use Rattle.c2po_compile.specs.BuildLimits.{IsReason, IsSizeReason, IsWithinLimits};
 
 use crate::build_fault::BuildFault;
 use crate::stored::store_signals;
-use c2po_nodes::Expanded;
+use c2po_ast::Expanded;
 use core_graph::to_core;
-use delay_sizes::{DelayFault, SizeFault, delays, queue_sizes};
+use delay_sizes::{DelayFault, Delays, SizeFault, delays, queue_sizes};
 use mltl_base::limits::{MAX_DELAY, MAX_SLOTS};
 use mltl_base::{Columns, Graph, List, Program, Signal, Sizes};
-use obs_verify::{Checked, VerifyFault, verify};
+use obs_verify::Checked;
 use std::alloc::Global;
 
 /// The checked program of a specification that is unfolded, over the columns of its signals.
 ///
 /// It is the image of the specification where that keeps the limits of instructions, delays and slots. Else the fault
-/// names the first of these limits that it exceeds. The verifier finds no fault in an image.
+/// names the first of these limits that it exceeds. An image is well-formed, so no rule is tried on it.
 pub fn build(
     alloc: Global,
     spec: &Expanded,
@@ -37,7 +35,7 @@ pub fn build(
     ensures refused { IfErr result (IsReason (asked_in columns.now.of_signal spec.now)) }
 {
     let graph = to_core(alloc, spec, columns)?;
-    let sizes = sizes_of(alloc, &graph)?;
+    let Timing { delays, sizes } = timing_of(alloc, &graph)?;
     let stored = store_signals(alloc, signals.as_slice(), columns.of_signal.as_slice())?;
     let Graph { bz, ft, pt, outs } = graph;
     let program = Program {
@@ -50,14 +48,22 @@ pub fn build(
         sizes,
         signals: stored,
     };
-    verified(alloc, program)
+    Ok(Checked::of(alloc, program, delays)?)
 }
 
-/// The sizes of a graph, or that it is too late or needs too many slots.
-fn sizes_of(alloc: Global, graph: &Graph) -> Result<Sizes, BuildFault>
+/// The delays and the sizes of a graph.
+struct Timing {
+    delays: Delays,
+    sizes: Sizes,
+}
+
+/// The delays and the sizes of a graph, or that it is too late or needs too many slots.
+fn timing_of(alloc: Global, graph: &Graph) -> Result<Timing, BuildFault>
     requires { IsSizable graph.now }
-    ensures sizes { IfOk result (AreSizesOf graph.now) }
-    ensures in_time { OnOk result (All (λ rows. rows ≤ MAX_DELAY) (worst_delays graph.now.ft)) }
+    ensures best { IfOk result (λ found. found.delays.best ≡ best_delays graph.now.ft) }
+    ensures worst { IfOk result (λ found. found.delays.worst ≡ worst_delays graph.now.ft) }
+    ensures in_time { IfOk result (λ found. All (λ rows. rows ≤ MAX_DELAY) found.delays.worst) }
+    ensures sizes { IfOk result (λ found. AreSizesOf graph.now found.sizes) }
     ensures fits { OnOk result (slot_count graph.now.ft graph.now.pt graph.now.outs ≤ MAX_SLOTS) }
     ensures refused { IfErr result (IsSizeReason graph.now) }
 {
@@ -67,22 +73,8 @@ fn sizes_of(alloc: Global, graph: &Graph) -> Result<Sizes, BuildFault>
         Err(DelayFault::Memory) => return Err(BuildFault::Memory),
     };
     match queue_sizes(alloc, graph, &delays) {
-        Ok(sizes) => Ok(sizes),
+        Ok(sizes) => Ok(Timing { delays, sizes }),
         Err(SizeFault::TooManySlots) => Err(BuildFault::TooManySlots),
         Err(SizeFault::Memory) => Err(BuildFault::Memory),
-    }
-}
-
-/// A well-formed program as a checked one: the verifier finds no fault in it.
-fn verified(alloc: Global, program: Program) -> Result<Checked, BuildFault>
-    requires layout { HasLayout program }
-    requires well_formed { IsWellFormed program }
-    ensures kept { IfOk result (λ checked. checked ≡ program) }
-    ensures refused { IfErr result (λ fault. fault ≡ BuildFault.Memory) }
-{
-    match verify(alloc, program) {
-        Ok(checked) => Ok(checked),
-        Err(VerifyFault::Memory) => Err(BuildFault::Memory),
-        Err(_fault) => unreachable!(),
     }
 }

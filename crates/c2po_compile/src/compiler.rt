@@ -5,11 +5,11 @@ ghost use Rattle.std.specs.Option.{ForSome, option_copied};
 ghost use Rattle.mltl_base.specs.declared.limits.TheConstants.{MAX_LINE_BYTES};
 ghost use Rattle.c2po_ast.specs.ItemShape.{spec_shape};
 ghost use Rattle.c2po_types.specs.Signals.{signals_of as declared};
-ghost use Rattle.obs_files.specs.Names.{NamesFit};
+ghost use Rattle.obs_binary.specs.Names.{NamesFit};
 ghost use Rattle.c2po_compile.specs.Refusals.{header_refusal};
 ghost use Rattle.c2po_compile.specs.Front.{refusal_in};
 ghost use Rattle.c2po_compile.specs.Image.{AreColumnsFor};
-ghost use Rattle.c2po_compile.specs.Compiled.{columns_by, image_of_text};
+ghost use Rattle.c2po_compile.specs.Compiled.{columns_by, compile_text};
 
 use crate::signals::signals_of;
 use crate::{CompileFault, back, front};
@@ -18,7 +18,7 @@ use mltl_base::Columns;
 use mltl_base::limits::MAX_SPEC_BYTES;
 use obs_verify::Checked;
 use std::alloc::Global;
-use trace_feed::{header, in_order};
+use trace_columns::{header, in_order};
 
 /// Compiles the text of a specification over the columns of a header line: a text of at most 1,048,576 bytes, a line
 /// of at most 65,535. Without a header line each signal has the column of its number.
@@ -33,9 +33,9 @@ pub fn compile(
     requires text { length text.now ≤ MAX_SPEC_BYTES }
     requires line { ForSome header_line (λ line. length line.now < MAX_LINE_BYTES) }
     ensures program { IfOk result (λ checked.
-        image_of_text text.now (option_copied header_line.entry) ≡ Ok checked) }
+        compile_text text.now (option_copied header_line.entry) ≡ Ok checked) }
     ensures refused { IfErr result (λ fault. fault ≢ CompileFault.Memory →
-        image_of_text text.now (option_copied header_line.entry) ≡ Err fault) }
+        compile_text text.now (option_copied header_line.entry) ≡ Err fault) }
     ensures names { IfOk result NamesFit }
 {
     let spec = front(alloc, text)?;

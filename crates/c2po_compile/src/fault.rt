@@ -12,7 +12,7 @@ use mltl_base::Name;
 use std::alloc::AllocError;
 use std::error::Error;
 use std::fmt;
-use trace_feed::HeaderFault;
+use trace_columns::HeaderFault;
 
 /// Why a specification is refused.
 #[derive(Clone, Copy)]

@@ -1,17 +1,30 @@
-//! What compiled programs report: the law is the contract of a function with an empty body.
+//! What texts say, and what compiled programs report: each law is the contract of a function with an empty body.
 
-ghost use Rattle.std.specs.Prelude.{◌≡◌, ◌≤◌, ◌↔◌, ℕ, List as Seq, Err, Ok, Option as Maybe, Some, map, slice_get};
+ghost use Rattle.std.specs.Prelude.{◌≡◌, ◌≤◌, ◌↔◌, ℕ, List as Seq, Err, None, Ok, Option as Maybe, Some, map, slice_get};
 ghost use Rattle.mltl_base.specs.Atoms.{Row};
 ghost use Rattle.mltl_base.specs.Programs.{output_names, outputs};
 ghost use Rattle.mltl_base.specs.Reports.{Output as Told, delay, reports};
 ghost use Rattle.mltl_base.specs.declared.program.Columns.{Columns as Places};
 ghost use Rattle.mltl_base.specs.declared.program.Program.{Program as Observer};
 ghost use Rattle.mltl_base.specs.declared.report.Style.{Style};
+ghost use Rattle.c2po_ast.specs.ItemShape.{ItemShape};
+ghost use Rattle.c2po_compile.specs.Front.{IsRefusedBy, Says, first_refusal, items_in};
 ghost use Rattle.c2po_compile.specs.Image.{plain_outputs};
-ghost use Rattle.c2po_compile.specs.ImageFiles.{CanMove, moved_image};
-ghost use Rattle.c2po_compile.specs.Compiled.{IsImageUnder, columns_by, image_of_text, outputs_in, signals_in};
-ghost use Rattle.c2po_compile.specs.Simplified.{CanMoveSimple, TellsSettled, moved_simple_image, simple_image_of_text, slots_in};
+ghost use Rattle.c2po_compile.specs.ImageFiles.{CanMove, compile_and_move};
+ghost use Rattle.c2po_compile.specs.Compiled.{IsImageUnder, columns_by, compile_text, outputs_in, signals_in};
+ghost use Rattle.c2po_compile.specs.Simplified.{CanMoveSimple, TellsSettled, compile_simplified_and_move, compile_simplified, slots_in};
 ghost use Rattle.c2po_compile.specs.declared.fault.CompileFault.{CompileFault as Fault};
+
+/// A text says what the rules of the grammar say: `items_in` has the items of a text that isn't refused, which no other
+/// items are, and the first refusal is by one of these rules.
+#[tactic(auto, using(crate::proofs::ByRules::alone, crate::proofs::ByRules::refused_by, crate::proofs::ByRules::says))]
+pub fn texts_say_what_rules_say()
+    ensures says { (text : Seq ℕ) → first_refusal text ≡ None → Says text (items_in text) }
+    ensures alone { (text : Seq ℕ) (items : Seq ItemShape) → Says text items →
+        (first_refusal text ≡ None) × (items ≡ items_in text) }
+    ensures refused { (text : Seq ℕ) (fault : Fault) →
+        first_refusal text ≡ Some fault → IsRefusedBy text fault }
+{}
 
 /// The program of a text and a header line is the image of the text over columns that its signals have there.
 ///
@@ -19,19 +32,19 @@ ghost use Rattle.c2po_compile.specs.declared.fault.CompileFault.{CompileFault as
 /// style, with the same worst-case delays, under the same names.
 pub fn programs_tell_their_texts()
     ensures image { (text : Seq ℕ) (header : Maybe (Seq ℕ)) (program : Observer) →
-        image_of_text text header ≡ Ok program → IsImageUnder text header program }
+        compile_text text header ≡ Ok program → IsImageUnder text header program }
     ensures reports { (style : Style) (text : Seq ℕ) (header : Maybe (Seq ℕ)) (columns : Places)
         (program : Observer) (rows : Seq Row) →
-        image_of_text text header ≡ Ok program → columns_by (signals_in text) header ≡ Ok columns →
+        compile_text text header ≡ Ok program → columns_by (signals_in text) header ≡ Ok columns →
         reports style (outputs program) rows ≡
         reports style (plain_outputs columns (outputs_in text)) rows }
     ensures delays { (text : Seq ℕ) (header : Maybe (Seq ℕ)) (columns : Places)
         (program : Observer) →
-        image_of_text text header ≡ Ok program → columns_by (signals_in text) header ≡ Ok columns →
+        compile_text text header ≡ Ok program → columns_by (signals_in text) header ≡ Ok columns →
         map delay (outputs program) ≡ map delay (plain_outputs columns (outputs_in text)) }
     ensures names { (text : Seq ℕ) (header : Maybe (Seq ℕ)) (columns : Places)
         (program : Observer) →
-        image_of_text text header ≡ Ok program → columns_by (signals_in text) header ≡ Ok columns →
+        compile_text text header ≡ Ok program → columns_by (signals_in text) header ≡ Ok columns →
         output_names program ≡ map (λ asked. asked.name) (outputs_in text) }
 {}
 
@@ -40,20 +53,20 @@ pub fn programs_tell_their_texts()
 pub fn moved_images_tell_their_texts()
     ensures reports { (style : Style) (text : Seq ℕ) (old new : Places) (rows : Seq Row) →
         CanMove text old new →
-        reports style (outputs (moved_image text old new)) rows ≡
+        reports style (outputs (compile_and_move text old new)) rows ≡
         reports style (plain_outputs new (outputs_in text)) rows }
     ensures names { (text : Seq ℕ) (old new : Places) →
-        output_names (moved_image text old new) ≡ map (λ asked. asked.name) (outputs_in text) }
+        output_names (compile_and_move text old new) ≡ map (λ asked. asked.name) (outputs_in text) }
 {}
 
 /// A text that is compiled in simplified form has a program that needs no more slots and boxes than its plain one. It is
 /// refused exactly as that is.
 pub fn simple_programs_need_no_more()
     ensures slots { (text : Seq ℕ) (header : Maybe (Seq ℕ)) (simple plain : Observer) →
-        simple_image_of_text text header ≡ Ok simple → image_of_text text header ≡ Ok plain →
+        compile_simplified text header ≡ Ok simple → compile_text text header ≡ Ok plain →
         slots_in simple ≤ slots_in plain }
     ensures refused { (text : Seq ℕ) (header : Maybe (Seq ℕ)) (fault : Fault) →
-        (simple_image_of_text text header ≡ Err fault) ↔ (image_of_text text header ≡ Err fault) }
+        (compile_simplified text header ≡ Err fault) ↔ (compile_text text header ≡ Err fault) }
 {}
 
 /// A program in simplified form reports of each output what is settled for the plain output of its text, no later
@@ -61,20 +74,20 @@ pub fn simple_programs_need_no_more()
 pub fn simple_programs_tell_plain_outputs()
     ensures told { (style : Style) (text : Seq ℕ) (header : Maybe (Seq ℕ)) (columns : Places)
         (program : Observer) (rows : Seq Row) (k : ℕ) (o : Told) →
-        simple_image_of_text text header ≡ Ok program →
+        compile_simplified text header ≡ Ok program →
         columns_by (signals_in text) header ≡ Ok columns →
         slice_get (plain_outputs columns (outputs_in text)) k ≡ Some o →
         TellsSettled style program k o rows }
     ensures moved { (style : Style) (text : Seq ℕ) (old new : Places) (rows : Seq Row) (k : ℕ)
         (o : Told) → CanMoveSimple text old new →
         slice_get (plain_outputs new (outputs_in text)) k ≡ Some o →
-        TellsSettled style (moved_simple_image text old new) k o rows }
+        TellsSettled style (compile_simplified_and_move text old new) k o rows }
     ensures names { (text : Seq ℕ) (header : Maybe (Seq ℕ)) (columns : Places)
         (program : Observer) →
-        simple_image_of_text text header ≡ Ok program →
+        compile_simplified text header ≡ Ok program →
         columns_by (signals_in text) header ≡ Ok columns →
         output_names program ≡ map (λ asked. asked.name) (outputs_in text) }
     ensures moved_names { (text : Seq ℕ) (old new : Places) →
-        output_names (moved_simple_image text old new)
+        output_names (compile_simplified_and_move text old new)
         ≡ map (λ asked. asked.name) (outputs_in text) }
 {}

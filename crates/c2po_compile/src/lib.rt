@@ -2,7 +2,7 @@
 //!
 //! [`front`] reads a text: its tokens, the trees of its items, and the check of those. [`back`] makes the program of
 //! a checked specification, over the columns of its signals. [`compile`] does both, and takes the columns from the
-//! header line of a trace. `image_of_text` in this crate's `specs/` defines the program of a text and a header line,
+//! header line of a trace. `compile_text` in this crate's `specs/` defines the program of a text and a header line,
 //! or why they are refused. [`back_simple`] makes the program in simplified form, where that is smaller.
 //!
 //! ```text

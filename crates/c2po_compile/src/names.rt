@@ -3,7 +3,7 @@
 ghost use Rattle.std.specs.Prelude.{◌≡◌, ◌<◌, ◌↔◌, ◌^◌, IsTrue, length};
 ghost use Rattle.std.specs.List.{flat_map};
 ghost use Rattle.mltl_base.specs.Programs.{out_name as own_name};
-ghost use Rattle.obs_files.specs.Layout.{out_names, signal_name, signal_names};
+ghost use Rattle.obs_binary.specs.Layout.{out_names, signal_name, signal_names};
 
 use mltl_base::{Out, Program, StoredSignal};
 

@@ -3,12 +3,12 @@
 ghost use Rattle.std.specs.Prelude.{◌≡◌, ◌<◌, ◌^◌, None, length, if◌then◌else◌, nat_le, IfErr, IfOk, OnOk};
 ghost use Rattle.c2po_ast.specs.ItemShape.{spec_shape};
 ghost use Rattle.c2po_types.specs.Signals.{signals_of as declared};
-ghost use Rattle.obs_files.specs.Names.{NamesFit};
+ghost use Rattle.obs_binary.specs.Names.{NamesFit};
 ghost use Rattle.c2po_types.specs.Outputs.{outputs_of};
 ghost use Rattle.c2po_compile.specs.Refusals.{IsFirstRefusal};
 ghost use Rattle.c2po_compile.specs.Compiled.{limit_over};
 ghost use Rattle.c2po_compile.specs.Image.{AreColumnsFor};
-ghost use Rattle.c2po_compile.specs.Simplified.{simple_image, slots_in};
+ghost use Rattle.c2po_compile.specs.Simplified.{simplify_over, slots_in};
 
 use crate::program::{back_of, built};
 use crate::{BuildFault, CompileFault};
@@ -47,7 +47,7 @@ pub fn back_simple(
 ) -> Result<Checked, CompileFault>
     requires columns { AreColumnsFor (length (declared (spec_shape spec.now))) columns.now }
     ensures image { IfOk result (λ checked. checked
-        ≡ simple_image columns.now
+        ≡ simplify_over columns.now
         (declared (spec_shape spec.now)) (outputs_of (spec_shape spec.now))) }
     ensures within { OnOk result (limit_over columns.now (spec_shape spec.now) ≡ None) }
     ensures refused { IfErr result

@@ -1,9 +1,9 @@
 //! From the text of a specification to its checked tree.
 
-ghost use Rattle.std.specs.Prelude.{◌≡◌, ◌≤◌, None, length, IfErr, IfOk, OnOk};
+ghost use Rattle.std.specs.Prelude.{◌≡◌, ◌≢◌, ◌≤◌, None, length, IfErr, IfOk, OnOk};
 ghost use Rattle.c2po_ast.specs.ItemShape.{spec_shape};
 ghost use Rattle.c2po_compile.specs.Refusals.{IsFirstRefusal};
-ghost use Rattle.c2po_compile.specs.Front.{first_refusal, items_in};
+ghost use Rattle.c2po_compile.specs.Front.{IsRefusedBy, Says, first_refusal, items_in};
 
 use crate::CompileFault;
 use c2po_lexer::lex;
@@ -16,9 +16,13 @@ use std::alloc::Global;
 ///
 /// Errors: `Refused` with the first fault of the text: one of its tokens, else one of the trees of its items, else one
 /// of names, kinds, weights, ranges or tenses; `Memory` when out of memory. `BadHeader` never comes.
+#[tactic(auto, using(crate::proofs::ByRules::answered_by, crate::proofs::ByRules::said))]
 pub fn front(alloc: Global, text: &[u8]) -> Result<TypedSpec, CompileFault>
     requires { length text.now ≤ MAX_SPEC_BYTES }
     ensures faultless { OnOk result (first_refusal text.now ≡ None) }
+    ensures says { IfOk result (λ spec. Says text.now (spec_shape spec)) }
+    ensures refused_by { IfErr result (λ fault.
+        fault ≢ CompileFault.Memory → IsRefusedBy text.now fault) }
     ensures items { IfOk result (λ spec. spec_shape spec ≡ items_in text.now) }
     ensures refused { IfErr result (λ fault. IsFirstRefusal (first_refusal text.now) fault) }
 {

@@ -9,16 +9,16 @@ use Rattle.std.proofs.lemmas.List.Elements.{All-nil, All-cons, All-append, All-w
 use Rattle.mltl_base.specs.declared.limits.TheConstants.{MAX_WEIGHT}
 use Rattle.mltl_base.specs.Ranges.{NoRange}
 use Rattle.mltl_base.specs.Subformulas.{Asked, IsOfTense, IsTensed}
-use Rattle.c2po_nodes.proofs.NoFaults.{neither}
+use Rattle.c2po_ast.proofs.NoFaults.{neither}
 use Rattle.c2po_ast.specs.ItemShape.{BodyShape, ItemShape, structure, input, define, formula, contract}
 use Rattle.c2po_types.specs.declared.fault.TypeFault.TheVariants.{Wide, Tense}
 use Rattle.c2po_types.specs.Checking.{Checked, in_turn}
 use Rattle.c2po_types.specs.Items.{Labels, with_struct, with_input, define_kind, with_value, with_label, formula_kind, contract_kind}
-use Rattle.c2po_nodes.specs.Faults.{HasRanges, formula_fault}
-use Rattle.c2po_unfold.specs.Faults.{value_fault}
-use Rattle.c2po_unfold.specs.Values.{formula_of}
-use Rattle.c2po_unfold.specs.Weights.{weight}
-use Rattle.c2po_unfold.specs.Environment.{Env, declare, fields, value, value_of}
+use Rattle.c2po_ast.specs.Faults.{HasRanges, formula_fault}
+use Rattle.c2po_types.specs.Faults.{value_fault}
+use Rattle.c2po_types.specs.Values.{formula_of}
+use Rattle.c2po_types.specs.Weights.{weight}
+use Rattle.c2po_types.specs.Environment.{Env, declare, fields, value, value_of}
 use Rattle.c2po_types.specs.FirstFault.{first_fault}
 use Rattle.c2po_types.specs.Stepwise.{State, start, when_ranged, one_tense, with_out, body_step, item_step, checked}
 use Rattle.c2po_types.specs.Signals.{body_signals}

@@ -70,10 +70,6 @@ ahead-more : (ps : List Placed) (p : Placed) (m : Checked (List Placed)) → ahe
 ahead-more ps p (Ok qs) = ap Ok (sym (append_assoc ps (p ∷ []) qs))
 ahead-more ps p (Err fault) = refl
 
--- no operands are left
-pub kinds-end : (es : List Expr) (n : ℕ) (seen : Visible) (ps : List Placed) → length es ≤ n → ahead ps (operand_kinds (shapes (drop n es)) seen) ≡ Ok ps
-kinds-end es n seen ps h = ap (λ rest. ahead ps (operand_kinds (shapes rest) seen)) (drop_of_length-le es h) ∙ ap Ok (append-nil ps)
-
 -- one operand more
 pub kinds-more : (es : List Expr) (n : ℕ) (seen : Visible) (ps : List Placed) (e : Expr) (k : Kind) → n < length es → e ≡ get_or es n e → kind_of (shape e) seen ≡ Ok k
     → ahead ps (operand_kinds (shapes (drop n es)) seen) ≡ ahead (ps ++ (e.line, k) ∷ []) (operand_kinds (shapes (drop (n + 1) es)) seen)

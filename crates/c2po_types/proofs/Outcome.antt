@@ -11,7 +11,7 @@ use Rattle.c2po_types.proofs.Turns.{drop-first, turn-map}
 use Rattle.c2po_ast.specs.declared.item.Item.{Item}
 use Rattle.c2po_types.specs.declared.progress.Progress.{Progress}
 use Rattle.c2po_types.specs.Reaching.{state_of}
-use Rattle.c2po_unfold.specs.Environment.{Env, no_names, declare, value, signal_value}
+use Rattle.c2po_types.specs.Environment.{Env, no_names, declare, value, signal_value}
 use Rattle.c2po_types.specs.FirstFault.{first_fault}
 use Rattle.c2po_types.specs.Stepwise.{State, start, item_step, checked}
 use Rattle.c2po_types.specs.Outputs.{with_signals}

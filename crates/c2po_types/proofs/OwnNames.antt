@@ -7,8 +7,8 @@ use Rattle.std.proofs.lemmas.Bool.Decides.{nat_tests}
 use Rattle.std.proofs.lemmas.List.{length-append}
 use Rattle.std.proofs.lemmas.Slice.Eq.{bytes_eq-Decides}
 use Rattle.mltl_base.specs.declared.limits.TheConstants.{MAX_SIGNALS}
-use Rattle.c2po_unfold.specs.Tables.{Table, entry_of, is_named}
-use Rattle.c2po_nodes.proofs.Places.{at_push}
+use Rattle.c2po_types.specs.Tables.{Table, entry_of, is_named}
+use Rattle.c2po_ast.proofs.Places.{at_push}
 use Rattle.c2po_ast.specs.ItemShape.{FieldShape, TypeShape, BodyShape, ItemShape, structure, input, define, formula, contract}
 use Rattle.c2po_types.specs.declared.kind.Meaning.{Meaning}
 use Rattle.c2po_types.specs.declared.kind.Meaning.TheVariants.{Struct, Value}
@@ -18,9 +18,9 @@ use Rattle.c2po_types.specs.declared.fault.TypeFault.TheVariants.{Twice}
 use Rattle.c2po_types.specs.Checking.{◌>>=◌, in_turn}
 use Rattle.c2po_types.specs.Items.{Labels, with_field, signal_kind, type_kind, signal_truth, with_struct, with_signal, with_input, define_kind, with_value, with_label, formula_kind, contract_kind}
 use Rattle.mltl_base.specs.Ranges.{NoRange}
-use Rattle.c2po_unfold.specs.Environment.{value_of}
-use Rattle.c2po_unfold.specs.Values as values
-use Rattle.c2po_unfold.specs.Faults.{value_fault}
+use Rattle.c2po_types.specs.Environment.{value_of}
+use Rattle.c2po_types.specs.Values as values
+use Rattle.c2po_types.specs.Faults.{value_fault}
 use Rattle.c2po_types.specs.FirstFault.{first_fault}
 use Rattle.c2po_types.specs.Stepwise.{State, start, with_out, body_step, item_step, checked}
 use Rattle.c2po_types.specs.Signals.{signals_of}

@@ -15,11 +15,11 @@ use Rattle.mltl_base.specs.Ranges.{NoRange}
 use Rattle.mltl_base.specs.Tables.{Table, entry_of, is_named}
 use Rattle.c2po_ast.specs.Shape.{Shape}
 use Rattle.c2po_ast.specs.ItemShape.{TypeShape, FieldShape, BodyShape, ItemShape, structure, input, define, formula, contract}
-use Rattle.c2po_nodes.specs.Faults.{formula_fault, or_later}
-use Rattle.c2po_unfold.specs.Environment.{Env, declare, fields, value, value_of}
-use Rattle.c2po_unfold.specs.Values.{formula_of}
-use Rattle.c2po_unfold.specs.Weights.{weight}
-use Rattle.c2po_unfold.specs.Faults.{value_fault}
+use Rattle.c2po_ast.specs.Faults.{formula_fault, or_later}
+use Rattle.c2po_types.specs.Environment.{Env, declare, fields, value, value_of}
+use Rattle.c2po_types.specs.Values.{formula_of}
+use Rattle.c2po_types.specs.Weights.{weight}
+use Rattle.c2po_types.specs.Faults.{value_fault}
 use Rattle.c2po_types.specs.declared.kind.Kind.{Kind}
 use Rattle.c2po_types.specs.declared.kind.Meaning.{Meaning}
 use Rattle.c2po_types.specs.declared.kind.Meaning.TheVariants.{Struct, Value}

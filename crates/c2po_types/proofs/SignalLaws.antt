@@ -7,7 +7,7 @@ use Rattle.std.proofs.lemmas.List.{append-nil}
 use Rattle.mltl_base.specs.declared.limits.TheConstants.{MAX_SIGNALS}
 use Rattle.mltl_base.specs.Ranges.{NoRange}
 use Rattle.c2po_ast.specs.ItemShape.{TypeShape, FieldShape, BodyShape, ItemShape, type_named, set_of, structure, input, define, formula, contract}
-use Rattle.c2po_unfold.specs.Tables.{Table, entry_of, is_named}
+use Rattle.c2po_types.specs.Tables.{Table, entry_of, is_named}
 use Rattle.c2po_types.specs.declared.kind.Base.TheVariants as base
 use Rattle.c2po_types.specs.declared.kind.Kind.{Kind}
 use Rattle.c2po_types.specs.declared.kind.Meaning.{Meaning}
@@ -17,9 +17,9 @@ use Rattle.c2po_types.specs.declared.fault.TypeFault.TheVariants.{Twice, Signals
 use Rattle.c2po_types.specs.Checking.{Checked, ◌>>=◌, in_turn}
 use Rattle.c2po_types.specs.Kinds.{single_kind, same_base, truth, whole, set_kind}
 use Rattle.c2po_types.specs.Items.{Labels, new, with_field, signal_kind, struct_kind, type_kind, signal_truth, with_struct, with_signal, with_input, define_kind, with_value, with_label, formula_kind, contract_kind}
-use Rattle.c2po_unfold.specs.Environment.{value_of}
-use Rattle.c2po_unfold.specs.Values as values
-use Rattle.c2po_unfold.specs.Faults.{value_fault}
+use Rattle.c2po_types.specs.Environment.{value_of}
+use Rattle.c2po_types.specs.Values as values
+use Rattle.c2po_types.specs.Faults.{value_fault}
 use Rattle.c2po_types.specs.Stepwise.{State, start, checked, defined, with_out, body_step, item_step}
 use Rattle.c2po_types.specs.Signals.{is_bool, body_signals, signals_of}
 use Rattle.c2po_types.proofs.Parts.{ok-inj, bind-ok, unless-ok, not-passed, when-ok, when_ranged-ok}

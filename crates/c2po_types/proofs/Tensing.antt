@@ -7,7 +7,7 @@ use Rattle.mltl_base.specs.declared.interval.Engine.TheVariants.{Ft, Pt}
 use Rattle.mltl_base.specs.Formula.{Formula, truth, falsity, atom, negation, conjunction, disjunction, implication, equivalence, finally, globally, until, release, once, historically, since}
 use Rattle.mltl_base.specs.Settled.{IsFuture, IsPast}
 use Rattle.mltl_base.specs.Subformulas.{IsOfTense}
-use Rattle.c2po_nodes.specs.Tenses.{has_past, has_future}
+use Rattle.c2po_ast.specs.Tenses.{has_past, has_future}
 use Rattle.c2po_types.specs.FirstFault.{is_mixed}
 
 is_future : (p : Formula) → has_past p ≡ false → IsFuture p

@@ -17,8 +17,8 @@ use Rattle.c2po_types.specs.Expressions.{kind_of}
 use Rattle.c2po_types.specs.Items.{nothing, type_kind, signal_kind}
 use Rattle.c2po_types.specs.Signals.{is_bool, body_signals}
 use Rattle.c2po_types.specs.Outputs.{place_by}
-use Rattle.c2po_unfold.specs.Weights.{weight}
-use Rattle.c2po_unfold.specs.Environment.{Env, value_of}
+use Rattle.c2po_types.specs.Weights.{weight}
+use Rattle.c2po_types.specs.Environment.{Env, value_of}
 
 -- what the members of a list bring in their order, each by those before it
 abbrev pub after_others : {X Y : Type 0} → (List X → X → List Y) → List X → List Y

@@ -16,12 +16,12 @@ use Rattle.mltl_base.specs.Tables.{is_named}
 use Rattle.c2po_ast.specs.Shape.{Shape}
 use Rattle.c2po_ast.specs.ItemShape.{TypeShape, FieldShape, BodyShape, ItemShape, structure, input, define, formula}
 use Rattle.c2po_ast.specs.ItemShape.{contract}
-use Rattle.c2po_nodes.specs.Faults.{formula_fault}
-use Rattle.c2po_nodes.specs.Tenses.{has_past, has_future}
-use Rattle.c2po_unfold.specs.Environment.{value_of}
-use Rattle.c2po_unfold.specs.Values.{formula_of}
-use Rattle.c2po_unfold.specs.Weights.{weight}
-use Rattle.c2po_unfold.specs.Faults.{value_fault}
+use Rattle.c2po_ast.specs.Faults.{formula_fault}
+use Rattle.c2po_ast.specs.Tenses.{has_past, has_future}
+use Rattle.c2po_types.specs.Environment.{value_of}
+use Rattle.c2po_types.specs.Values.{formula_of}
+use Rattle.c2po_types.specs.Weights.{weight}
+use Rattle.c2po_types.specs.Faults.{value_fault}
 use Rattle.c2po_types.specs.declared.declarations.Declarations.{Declarations}
 use Rattle.c2po_types.specs.declared.fault.TypeFault.{TypeFault}
 use Rattle.c2po_types.specs.declared.fault.TypeFault.TheVariants as fault

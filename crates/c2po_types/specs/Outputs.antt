@@ -7,8 +7,8 @@ use Rattle.mltl_base.specs.Subformulas.{Asked}
 use Rattle.c2po_ast.specs.ItemShape as item
 use Rattle.c2po_ast.specs.ItemShape.{BodyShape, ItemShape}
 use Rattle.c2po_ast.specs.Names.{IsPlainName}
-use Rattle.c2po_unfold.specs.Values.{formula_of}
-use Rattle.c2po_unfold.specs.Environment.{Env, no_names, declare, fields, value, signal_value, value_of}
+use Rattle.c2po_types.specs.Values.{formula_of}
+use Rattle.c2po_types.specs.Environment.{Env, no_names, declare, fields, value, signal_value, value_of}
 use Rattle.c2po_types.specs.Signals.{body_signals}
 
 -- What is known between two items: the values of names, and the numbers of signals and of outputs before it.

@@ -1,14 +1,14 @@
 -- How far the check has come.
 
 use Rattle.std.specs.Prelude.{◌≡◌, ℕ, Ok, Err, ⊤}
-use Rattle.c2po_unfold.specs.declared.fault.UnfoldFault.{UnfoldFault}
-use Rattle.c2po_unfold.specs.declared.fault.UnfoldFault.TheVariants as unfolded
-use Rattle.c2po_unfold.specs.declared.fault.UnfoldFault.TheVariants.{Heavy}
+use Rattle.c2po_types.specs.declared.unfold_fault.UnfoldFault.{UnfoldFault}
+use Rattle.c2po_types.specs.declared.unfold_fault.UnfoldFault.TheVariants as unfolded
+use Rattle.c2po_types.specs.declared.unfold_fault.UnfoldFault.TheVariants.{Heavy}
 use Rattle.c2po_types.specs.declared.fault.TypeFault.{TypeFault}
 use Rattle.c2po_types.specs.declared.fault.TypeFault.TheVariants.{Wide, Memory}
 use Rattle.c2po_types.specs.Checking.{Checked, Fails}
-use Rattle.c2po_unfold.specs.Environment.{Env}
-use Rattle.c2po_unfold.specs.Holding.{StandsFor}
+use Rattle.c2po_types.specs.Environment.{Env}
+use Rattle.c2po_types.specs.Holding.{StandsFor}
 use Rattle.c2po_types.specs.declared.progress.Progress.{Progress}
 use Rattle.c2po_types.specs.Stepwise.{State}
 

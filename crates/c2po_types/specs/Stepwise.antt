@@ -13,11 +13,11 @@ use Rattle.c2po_types.specs.declared.fault.TypeFault.TheVariants as fault
 use Rattle.c2po_types.specs.Checking.{Checked, ◌>>=◌, in_turn}
 use Rattle.c2po_types.specs.Items.{Labels, nothing, with_struct, with_input, define_kind, with_value, with_label}
 use Rattle.c2po_types.specs.Items.{formula_kind, contract_kind}
-use Rattle.c2po_nodes.specs.Faults.{formula_fault, or_later}
-use Rattle.c2po_unfold.specs.Environment.{Env, no_names, declare, fields, value, value_of}
-use Rattle.c2po_unfold.specs.Values.{Value, formula_of}
-use Rattle.c2po_unfold.specs.Weights.{weight}
-use Rattle.c2po_unfold.specs.Faults.{value_fault}
+use Rattle.c2po_ast.specs.Faults.{formula_fault, or_later}
+use Rattle.c2po_types.specs.Environment.{Env, no_names, declare, fields, value, value_of}
+use Rattle.c2po_types.specs.Values.{Value, formula_of}
+use Rattle.c2po_types.specs.Weights.{weight}
+use Rattle.c2po_types.specs.Faults.{value_fault}
 use Rattle.c2po_types.specs.Outputs.{with_signals}
 use Rattle.c2po_types.specs.FirstFault.{range_fault, is_mixed}
 

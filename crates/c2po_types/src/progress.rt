@@ -1,12 +1,11 @@
 //! How far the check of a specification has come.
 
 ghost use Rattle.std.specs.Prelude.{◌≡◌};
-ghost use Rattle.c2po_unfold.specs.Environment.{no_names};
-ghost use Rattle.c2po_unfold.specs.Holding.{StandsFor};
+ghost use Rattle.c2po_types.specs.Environment.{no_names};
+ghost use Rattle.c2po_types.specs.Holding.{StandsFor};
 ghost use Rattle.c2po_types.specs.Stepwise.{start};
 
-use crate::{Declarations, NameTable};
-use c2po_unfold::Unfolding;
+use crate::{Declarations, NameTable, Unfolding};
 use std::alloc::Global;
 
 /// What is known after some items.

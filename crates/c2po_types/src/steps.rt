@@ -5,19 +5,21 @@ ghost use Rattle.mltl_base.specs.declared.limits.TheConstants.{MAX_WEIGHT};
 ghost use Rattle.mltl_base.specs.Answers.{reason};
 ghost use Rattle.c2po_ast.specs.Shape.{shape};
 ghost use Rattle.c2po_ast.specs.ItemShape.{field_shape, item_shape, type_shape};
-ghost use Rattle.c2po_unfold.specs.Facts.{told_fault, with_future, with_past};
-ghost use Rattle.c2po_unfold.specs.Environment.{Env, value_of};
-ghost use Rattle.c2po_unfold.specs.Holding.{StandsFor, Weighs};
-ghost use Rattle.c2po_unfold.specs.Values.{Value};
+ghost use Rattle.c2po_types.specs.Facts.{told_fault, with_future, with_past};
+ghost use Rattle.c2po_types.specs.Environment.{Env, value_of};
+ghost use Rattle.c2po_types.specs.Holding.{StandsFor, Weighs};
+ghost use Rattle.c2po_types.specs.Values.{Value};
 ghost use Rattle.c2po_types.specs.FirstFault.{other_tense, range_fault};
 ghost use Rattle.c2po_types.specs.Stepwise.{item_step, struct_step, input_step, define_step, formula_step, contract_step, one_out, two_out, with_out};
 ghost use Rattle.c2po_types.specs.Outputs.{with_signals};
 ghost use Rattle.c2po_types.specs.Reaching.{Reaches, state_of, unfold_fault};
 
 use crate::progress::Progress;
-use crate::{Signal, TypeFault, check_contract, check_define, check_formula, declare_label};
+use crate::{
+    Signal, Tenses, TypeFault, UnfoldFault, Unfolding, Weighed, check_contract, check_define,
+    check_formula, declare_label, first_fault,
+};
 use c2po_ast::{Body, Expr, FieldDecl, Item, TypeTree, field_names};
-use c2po_unfold::{Tenses, UnfoldFault, Unfolding, Weighed, first_fault};
 use mltl_base::limits::MAX_WEIGHT;
 use mltl_base::{Engine, List, Name, NoRange};
 use std::alloc::Global;

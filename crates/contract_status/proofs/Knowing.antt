@@ -208,19 +208,3 @@ contract_waits rows p q from last h g =
 -- the same stretch, its ends and its value being known otherwise
 pub stretch_as : {X : Type 0} (values : List X) (from last last' : ℕ) (value value' : X) → last' ≡ last → value ≡ value' → IsLongestStretch values from last value → IsLongestStretch values from last' value'
 stretch_as values from last last' value value' e f h = rw (e, ← f) h
-
--- where the runs of both instructions of a contract are the newest ones, so is the stretch up to where the first of them ends
-pub contract_last : (rows : List Row) (p q : Formula) (from last end : ℕ) → from ≤ end → IsLongestStretch (verdicts rows p) from last true → length (verdicts rows p) ≤ last + 1 → length (verdicts rows q) ≤ end + 1
-    → length (words rows (contract p q)) ≤ min last end + 1
-contract_last rows p q from last end up h first second = elim (cases_lt end last) [
-  | inl earlier ↦
-      let least : min last end ≡ end = omega arith in
-      let rest : IsLongestStretch (verdicts rows p) (end + 1) last true = record {
-        lasts = record { upward = omega arith; alike = λ t low high. h.lasts.alike t (omega arith) high };
-        ends = h.ends;
-      } in
-      rw least (contract_waits rows p q (end + 1) last rest second)
-  | inr late ↦
-      let least : min last end ≡ last = omega arith in
-      rw least (contract_ends rows p q (last + 1) first)
-]

@@ -1,7 +1,7 @@
 -- What is open once the first report was given.
 
 use Rattle.std.proofs.Common.{◌≡◌, ◌≢◌, ◌↔◌, ℕ, zero, suc, ◌+◌, ◌-◌, ◌<◌, ◌≤◌, ◌⊎◌, inl, inr, Bool, true, false, not, is_some, IsTrue, replicate, Option, Some, None, List, [], ◌∷◌, ◌++◌, length, map, drop, slice_get, slice_index, slice_index_or, slice_set, refl, sym, ap, subst, ◌∙◌, arith, add-one}
-use Rattle.std.proofs.lemmas.Bool.{cases_eq, cases_lt}
+use Rattle.std.proofs.lemmas.Bool.{cases_eq}
 use Rattle.std.proofs.lemmas.List.{drop_all, drop_more, drop-set-lt, get_or-set_other, get_or-set_same, length-map, length-set}
 use Rattle.std.proofs.lemmas.List.Sums.{sum_by-set}
 use Rattle.std.proofs.lemmas.Option.{get_or_from_slice_get, slice_get-map, slice_get_within}
@@ -163,7 +163,7 @@ pub fewer_left : (n : ℕ) (next_times : List ℕ) (k next : ℕ) → k < length
 fewer_left n next_times k next inside up within = omega (arith, sum_by-set (λ next_time. n - next_time) next_times k next 0 inside)
 
 -- the engines' part of the state
-pub taken_by : (program : Program) (rows : List Row) (engines : Engines) (next_times : List ℕ) → StandFor program rows engines.rows.now engines.ft.now engines.pt.now next_times → HaveTaken program rows engines
+pub taken_by : (program : Program) (rows : List Row) (engines : Engines) (next_times : List ℕ) → StandFor program rows engines.rows engines.ft.now engines.pt.now next_times → HaveTaken program rows engines
 taken_by program rows engines next_times stands = record { future = stands.future; past = stands.past; count = stands.count }
 
 -- what holds once the report of an output up to this time was given
@@ -194,7 +194,7 @@ tells style program rows next_times k last stretch placed first covers =
     }
 
 -- the same where a call gave the first open output, and another one the last time that its report covers
-pub told_by : (style : Style) (program : Program) (rows : List Row) (engines : Engines) (next_times : List ℕ) (k last : ℕ) (stretch : Stretch) → StandFor program rows engines.rows.now engines.ft.now engines.pt.now next_times
+pub told_by : (style : Style) (program : Program) (rows : List Row) (engines : Engines) (next_times : List ℕ) (k last : ℕ) (stretch : Stretch) → StandFor program rows engines.rows engines.ft.now engines.pt.now next_times
     → ((rows : List Row) → HaveTaken program rows engines → AreKnown program rows next_times → IsFirstOpen program rows next_times k stretch)
     → ((told : List Word) → IsLongestStretch told (slice_index next_times k) stretch.last stretch.word → Covers style told (slice_index next_times k) last stretch.word) → IsTold style program rows next_times k last stretch.word
 told_by style program rows engines next_times k last stretch stands finds covers =
@@ -206,7 +206,7 @@ pub record GoesOn (rows : List Row) (last : ℕ) (stretch : Stretch) : Type 0 wh
   pub later : last < stretch.last
   pub early : last + 1 < length rows
 
-pub goes_past : (style : Style) (program : Program) (rows : List Row) (engines : Engines) (next_times : List ℕ) (k last : ℕ) (stretch : Stretch) → StandFor program rows engines.rows.now engines.ft.now engines.pt.now next_times
+pub goes_past : (style : Style) (program : Program) (rows : List Row) (engines : Engines) (next_times : List ℕ) (k last : ℕ) (stretch : Stretch) → StandFor program rows engines.rows engines.ft.now engines.pt.now next_times
     → ((rows : List Row) → HaveTaken program rows engines → AreKnown program rows next_times → IsFirstOpen program rows next_times k stretch)
     → ((told : List Word) → IsLongestStretch told (slice_index next_times k) stretch.last stretch.word → Covers style told (slice_index next_times k) last stretch.word)
     → (output : Out) → slice_get program.outs k ≡ Some output → slice_get (known_words program rows output) (last + 1) ≡ Some stretch.word → GoesOn rows last stretch
@@ -219,23 +219,6 @@ goes_past style program rows engines next_times k last stretch stands finds cove
       later = stretch_goes_on style told (slice_index next_times k) last stretch.last stretch.word (covers told first.here) first.here goes_on;
       early = omega (arith, slice_get_within told (last + 1) stretch.word goes_on, words_fit rows (output_of program first.output));
     }
-
--- what a search finds, where its answer is known
-pub first_found : (program : Program) (engines : Engines) (next_times : List ℕ) (found : Option (ℕ × Stretch)) (k : ℕ) (stretch : Stretch) → found ≡ Some (k, stretch)
-    → ((rows : List Row) → HaveTaken program rows engines → AreKnown program rows next_times → FindsOpen program rows next_times found)
-    → (rows : List Row) → HaveTaken program rows engines → AreKnown program rows next_times → IsFirstOpen program rows next_times k stretch
-first_found program engines next_times found k stretch is finds rows taken known = subst (FindsOpen program rows next_times) is (finds rows taken known)
-
-pub all_told : (program : Program) (engines : Engines) (next_times : List ℕ) (found : Option (ℕ × Stretch)) → found ≡ None
-    → ((rows : List Row) → HaveTaken program rows engines → AreKnown program rows next_times → FindsOpen program rows next_times found)
-    → (rows : List Row) → HaveTaken program rows engines → AreKnown program rows next_times → AreTold program rows next_times (length program.outs)
-all_told program engines next_times found is finds rows taken known = subst (FindsOpen program rows next_times) is (finds rows taken known)
-
--- the stretch that a cursor has is that of the first open output
-pub kept_first : (program : Program) (engines : Engines) (next_times : List ℕ) (cursor : Cursor) (stretch : Stretch) → cursor.stretch ≡ Some stretch
-    → ((rows : List Row) → HaveTaken program rows engines → AreKnown program rows next_times → IsCursor program rows next_times cursor)
-    → (rows : List Row) → HaveTaken program rows engines → AreKnown program rows next_times → IsFirstOpen program rows next_times cursor.out stretch
-kept_first program engines next_times cursor stretch is fits rows taken known = (fits rows taken known).kept stretch is
 
 -- two answers that are one have one stretch
 stretch_in : Stretch → Option (ℕ × Stretch) → Stretch
@@ -288,24 +271,6 @@ cursor_after program rows next_times k last stretch cursor inside up first here 
           } in
           rw (at, same) rest;
     }
-
--- the same where the stretch is the last that is known of the output: once it was given, the search goes on at the next one
-pub cursor_past : (program : Program) (rows : List Row) (next_times : List ℕ) (k last : ℕ) (stretch : Stretch) (cursor : Cursor) → k < length next_times → slice_index next_times k ≤ last → last ≤ stretch.last → IsFirstOpen program rows next_times k stretch
-    → ((output : Out) → slice_get program.outs k ≡ Some output → length (known_words program rows output) ≤ stretch.last + 1)
-    → (last < stretch.last → (cursor.out ≡ k) × (cursor.stretch ≡ Some stretch)) → (last ≡ stretch.last → (cursor.out ≡ k + 1) × (cursor.stretch ≡ None)) → IsCursor program rows (slice_set next_times k (last + 1)) cursor
-cursor_past program rows next_times k last stretch cursor inside up within first ends here past = elim (cases_lt last stretch.last) [
-  | inl earlier ↦
-      let at = here earlier in
-      cursor_after program rows next_times k last stretch cursor inside up first (inl at.0)
-      (λ left is. let same : left ≡ stretch = (let kept = at.1 in cc) in (at.0, same, rw same earlier))
-  | inr late ↦
-      let at = past (omega (arith, late, within)) in
-      let moved : slice_index (slice_set next_times k (last + 1)) k ≡ last + 1 = get_or-set_same next_times k (last + 1) 0 inside in
-      record {
-        told = rw at.0 (more_told program rows (slice_set next_times k (last + 1)) k first.output first.there (told_moved program rows next_times k (last + 1) first.told) (omega (arith, moved, late, within, ends first.output first.there)));
-        kept = λ found is. let none = at.1 in absurd cc;
-      }
-]
 
 -- something is open exactly where the first open output is found
 open_some : (program : Program) (rows : List Row) (next_times : List ℕ) (k : ℕ) (stretch : Stretch) → ArePlaced program rows next_times → IsFirstOpen program rows next_times k stretch → open_of Each program rows next_times ≢ []

@@ -135,5 +135,5 @@ readable program rows engines next_times k (out.TheVariants.Contract engine.TheV
 readable program rows engines next_times k (out.TheVariants.Contract engine.TheVariants.Pt l r name) formed taken placed there =
     let output = out.TheVariants.Contract engine.TheVariants.Pt l r name in
     let exists = named program k output formed there in
-    let late : engines.rows.now ≤ slice_index next_times k + 1 = omega (arith, taken.count, past_delay program l, past_delay program r, next_time_recent program rows next_times k output placed there) in
+    let late : engines.rows ≤ slice_index next_times k + 1 = omega (arith, taken.count, past_delay program l, past_delay program r, next_time_recent program rows next_times k output placed there) in
     ((omega (arith, taken.past.count, exists.0), late), (omega (arith, taken.past.count, exists.1), late))

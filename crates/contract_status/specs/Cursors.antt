@@ -1,7 +1,6 @@
 -- Where the search for open reports goes on, after the same rows.
 
-use Rattle.std.specs.Prelude.{ℕ, ◌≡◌, ◌+◌, ◌-◌, ◌<◌, ◌≤◌, Option, IsSome, Some, None, Result, Ok, Err}
-use Rattle.std.specs.Prelude.{List, length, slice_get}
+use Rattle.std.specs.Prelude.{ℕ, ◌≡◌, ◌+◌, ◌-◌, ◌<◌, ◌≤◌, Option, IsSome, Some, None, List, length, slice_get}
 use Rattle.mltl_base.specs.declared.program.Out.{Out}
 use Rattle.mltl_base.specs.declared.program.Program.{Program}
 use Rattle.mltl_base.specs.declared.report.Report.{Report}
@@ -12,10 +11,9 @@ use Rattle.pt_boxes.specs.declared.Pt.{Pt}
 use Rattle.pt_boxes.specs.Standing as past
 use Rattle.contract_status.specs.declared.cursor.Cursor.{Cursor}
 use Rattle.contract_status.specs.declared.engines.Engines.{Engines}
-use Rattle.contract_status.specs.declared.engines.Look.{Look}
 use Rattle.contract_status.specs.declared.engines.Stretch.{Stretch}
 use Rattle.contract_status.specs.Open.{AreKnown}
-use Rattle.contract_status.specs.Stretches.{AreTold, FindsOpen, HaveTaken, IsFirstOpen, known_words}
+use Rattle.contract_status.specs.Stretches.{AreTold, HaveTaken, IsFirstOpen, known_words}
 
 -- all outputs before the cursor's were reported, and the run that it keeps is the first that is open
 pub record IsCursor (program : Program) (rows : List Row) (next_times : List ℕ) (cursor : Cursor) : Type 0 where
@@ -62,32 +60,3 @@ outs_after next_times cursor = length next_times - cursor.out
 abbrev pub LooksOnward : ℕ → ℕ → Option (ℕ × Stretch) → ℕ → ℕ → Type 0
 LooksOnward outs first (Some (k, stretch)) before after = after + (outs - k) ≤ before + (outs - first) + 1
 LooksOnward outs first None before after = after ≤ before + (outs - first)
-
--- the same where a look may end at an output, from which on it has to be looked in another way
-abbrev pub LooksOn : ℕ → ℕ → Result (Option (ℕ × Stretch)) (ℕ × Look) → ℕ → ℕ → Type 0
-LooksOn outs first (Ok found) before after = LooksOnward outs first found before after
-LooksOn outs first (Err (k, look)) before after = after + (outs - k) ≤ before + (outs - first) + 1
-
--- After a search that takes a step for each output that it looks at, and with the outputs that are left to the cursor
--- added on both sides, at most one step was added.
-abbrev pub SearchesOn : List ℕ → Option (ℕ × Stretch) → Cursor → Cursor → Type 0
-SearchesOn next_times found before after =
-    (start end : ℕ) → LooksOnward (length next_times) before.out found start end
-    → end + outs_after next_times after ≤ start + outs_after next_times before + 1
-
--- the same after such a look
-abbrev pub SearchesBy : List ℕ → Result (Option (ℕ × Stretch)) (ℕ × Look) → Cursor → Cursor → Type 0
-SearchesBy next_times found before after =
-    (start end : ℕ) → LooksOn (length next_times) before.out found start end
-    → end + outs_after next_times after ≤ start + outs_after next_times before + 1
-
--- what a look found: the first open output, or one before which all are told
-abbrev pub FindsBy : Program → List Row → List ℕ → Result (Option (ℕ × Stretch)) (ℕ × Look) → Type 0
-FindsBy program rows next_times (Ok found) = FindsOpen program rows next_times found
-FindsBy program rows next_times (Err (k, look)) = AreTold program rows next_times k
-
--- what a search found over engines, of whatever rows they have taken
-abbrev pub FindsFirst : Program → Engines → List ℕ → Option (ℕ × Stretch) → Type 0
-FindsFirst program engines next_times found =
-    (rows : List Row) → HaveTaken program rows engines → AreKnown program rows next_times
-    → FindsOpen program rows next_times found

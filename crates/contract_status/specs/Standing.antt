@@ -1,7 +1,6 @@
 -- The engines and the outputs' next times after some rows.
 
-use Rattle.std.specs.Prelude.{ℕ, ◌≡◌, ◌≤◌, Option, List, length, IfSome, IsNone}
-use Rattle.mltl_base.specs.declared.limits.TheConstants.{MAX_MISSION}
+use Rattle.std.specs.Prelude.{ℕ, ◌≡◌, Option, List, length, IfSome, IsNone}
 use Rattle.mltl_base.specs.declared.program.Program.{Program}
 use Rattle.mltl_base.specs.declared.report.Report.{Report}
 use Rattle.mltl_base.specs.declared.report.Style.{Style}
@@ -24,12 +23,7 @@ pub record StandFor (program : Program) (rows : List Row) (n : ℕ) (ft : Ft) (p
 -- the same of both engines at once
 abbrev pub EnginesStandFor : Program → List Row → Engines → List ℕ → Type 0
 EnginesStandFor program rows engines next_times =
-    StandFor program rows engines.rows.now engines.ft.now engines.pt.now next_times
-
--- so they do for some rows, no more than a mission has
-abbrev pub EnginesStand : Program → Engines → List ℕ → Type 0
-EnginesStand program engines next_times =
-    (engines.rows.now ≤ MAX_MISSION) × ((rows : List Row) × EnginesStandFor program rows engines next_times)
+    StandFor program rows engines.rows engines.ft.now engines.pt.now next_times
 
 -- The first report that was open after n rows was given, and the others still are; where none was open, nothing
 -- changed.

@@ -1,7 +1,7 @@
 -- What the engines show of verdicts and of words, from some time on.
 
 use Rattle.std.specs.Prelude.{ℕ, ◌≡◌, ◌≢◌, ◌+◌, ◌<◌, ◌≤◌, Bool, Option, Some, None, List, length, slice_get}
-use Rattle.std.specs.Prelude.{IfSome, slice_index, ⊤}
+use Rattle.std.specs.Prelude.{slice_index}
 use Rattle.mltl_base.specs.declared.interval.Engine as engine
 use Rattle.mltl_base.specs.declared.program.Out as out
 use Rattle.mltl_base.specs.declared.program.Program.{Program}
@@ -25,14 +25,13 @@ use Rattle.contract_status.specs.Open.{known_counts_of}
 pub record HaveTaken (program : Program) (rows : List Row) (engines : Engines) : Type 0 where
   pub future : future.FtHasTaken program rows engines.ft.now
   pub past : past.PtHasTaken program rows engines.pt.now
-  pub count : length rows ≡ engines.rows.now
+  pub count : length rows ≡ engines.rows
 
 -- an instruction exists, and its verdicts can be read from this time on: of the past engine only those of the last row
 abbrev pub CanRead : Engines → engine.Engine → ℕ → ℕ → Type 0
 CanRead engines engine.TheVariants.Ft i from =
     (i < future.instruction_count engines.ft.now) × (future.lowest_at engines.ft.now i ≤ from)
-CanRead engines engine.TheVariants.Pt i from =
-    (i < past.instruction_count engines.pt.now) × (engines.rows.now ≤ from + 1)
+CanRead engines engine.TheVariants.Pt i from = (i < past.instruction_count engines.pt.now) × (engines.rows ≤ from + 1)
 
 -- so do those that an output reports
 abbrev pub CanReport : Engines → out.Out → ℕ → Type 0
@@ -82,15 +81,6 @@ abbrev pub ShowsWords : List Word → ℕ → Option Stretch → Type 0
 ShowsWords told from (Some stretch) = IsLongestStretch told from stretch.last stretch.word
 ShowsWords told from None = length told ≤ from
 
--- the run that is shown, where one is, ends with the last verdict that is known
-abbrev pub IsNewest : List Bool → Seen → Type 0
-IsNewest values (Run last value) = length values ≤ last + 1
-IsNewest values Nothing = ⊤
-
--- the stretch, where there is one, ends with the last word that is known
-abbrev pub IsLast : List Word → Option Stretch → Type 0
-IsLast told found = IfSome found (λ stretch. length told ≤ stretch.last + 1)
-
 -- where the first report from a time on ends: there with a report for each time, else with the longest stretch
 abbrev pub IsEnd : Style → List Word → ℕ → ℕ → Word → Type 0
 IsEnd Each told from last word = last ≡ from
@@ -118,9 +108,3 @@ pub record IsFirstOpen (program : Program) (rows : List Row) (next_times : List 
 abbrev pub FindsOpen : Program → List Row → List ℕ → Option (ℕ × Stretch) → Type 0
 FindsOpen program rows next_times (Some (k, stretch)) = IsFirstOpen program rows next_times k stretch
 FindsOpen program rows next_times None = AreTold program rows next_times (length program.outs)
-
--- the stretch that was found, where one was, ends with the last word of its output that is known
-abbrev pub FindsLast : Program → List Row → Option (ℕ × Stretch) → Type 0
-FindsLast program rows (Some (k, stretch)) =
-    (out : out.Out) → slice_get program.outs k ≡ Some out → length (known_words program rows out) ≤ stretch.last + 1
-FindsLast program rows None = ⊤

@@ -9,6 +9,5 @@ mod line;
 mod outs;
 
 pub use cursor::Cursor;
-pub use engines::Look;
 pub use line::{line_of, write_line};
 pub use outs::Outs;

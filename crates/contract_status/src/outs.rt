@@ -1,12 +1,11 @@
 //! The outputs of a program and their next times.
 
 use crate::cursor::Cursor;
-use crate::engines::{Engines, Look};
-use crate::first_report::{tell_first, tell_kept, tell_newest, tell_older};
-use fixed_list::Fixed;
+use crate::engines::Engines;
+use crate::first_report::tell_first;
 use ft_engine::Ft;
 use mltl_base::steps::Steps;
-use mltl_base::{Report, Style};
+use mltl_base::{Fixed, Report, Style};
 use obs_verify::Checked;
 use pt_boxes::Pt;
 use std::alloc::{AllocError, Global};
@@ -28,14 +27,14 @@ impl Model for Outs {
 }
 
 impl Outs {
-    ghost use Rattle.std.specs.Prelude.{◌≡◌, ◌+◌, ◌≤◌, ◌↔◌, List, [], length, replicate, IfOk, IfSome, IsNone, IsTrue, None, OnErr, Some};
+    ghost use Rattle.std.specs.Prelude.{◌≡◌, ◌+◌, ◌≤◌, ◌↔◌, List, [], length, replicate, IfOk, IfSome, IsTrue};
     ghost use Rattle.mltl_base.specs.declared.limits.TheConstants.{MAX_MISSION};
     ghost use Rattle.mltl_base.specs.declared.report.Style.{Style as Form};
     ghost use Rattle.mltl_base.specs.declared.report.Style.TheVariants.{Each as each, Runs as runs};
     ghost use Rattle.mltl_base.specs.Atoms.{Row};
-    ghost use Rattle.contract_status.specs.Cursors.{FitsCursor, FitsEngines, KeepsStretch, MovesOn, outs_after};
+    ghost use Rattle.contract_status.specs.Cursors.{FitsCursor, KeepsStretch, MovesOn, outs_after};
     ghost use Rattle.contract_status.specs.Open.{ArePlaced, known_counts_of, open_of};
-    ghost use Rattle.contract_status.specs.Standing.{EnginesStand, EnginesStandFor, GivesNext, StandFor};
+    ghost use Rattle.contract_status.specs.Standing.{GivesNext, StandFor};
 
     /// The outputs of a program before the first row, with 0 for each next time. Allocates all its memory.
     pub fn make(alloc: Global, checked: &Checked) -> Result<Outs, AllocError>
@@ -113,122 +112,9 @@ impl Outs {
         ensures counted { steps.new + outs_after self.old cursor.new
             ≤ steps.old + outs_after self.old cursor.old + 2 }
     {
-        let engines = Engines { ft, pt, rows: &n };
+        let engines = Engines { ft, pt, rows: n };
         let times = self.times.as_mut_slice();
         tell_first(style, checked, &engines, times, cursor, steps)
-    }
-
-    /// The report of the stretch that the cursor has, after `n` rows. `None`, and no change, where it has none.
-    #[inline(always)]
-    pub fn next_kept(
-        &mut self,
-        style: Style,
-        cursor: &mut Cursor,
-        checked: &Checked,
-        ft: &Ft,
-        pt: &Pt,
-        n: &u64,
-    ) -> Option<Report>
-        requires early { n.now ≤ MAX_MISSION }
-        requires stands { (rows : List Row)
-            × StandFor checked.now rows n.now ft.now pt.now self.old }
-        requires cursor { FitsCursor checked.now n.now ft.now pt.now self.old cursor.old }
-        ensures gives { IfSome result (λ report.
-            GivesNext style checked.now n.now ft.now pt.now (Some report) self.old self.new) }
-        ensures cursor { FitsCursor checked.now n.now ft.now pt.now self.new cursor.new }
-        ensures onward { cursor.old.out ≤ cursor.new.out }
-        ensures same { IsNone result → (self.new ≡ self.old) × (cursor.new ≡ cursor.old) }
-    {
-        let times = self.times.as_mut_slice();
-        tell_kept(style, checked, &Engines { ft, pt, rows: n }, times, cursor)
-    }
-
-    /// What `next_at` gives where the cursor has no stretch and the look tells which report is the first. Else an `Err` says how to
-    /// look on, and nothing but the cursor changes. Its steps are the outputs that it looks at.
-    #[inline(always)]
-    pub fn next_at_once<L: Ledger>(
-        &mut self,
-        style: Style,
-        cursor: &mut Cursor,
-        look: Look,
-        checked: &Checked,
-        ft: &Ft,
-        pt: &Pt,
-        n: &u64,
-        steps: &mut Steps<L>,
-    ) -> Result<Option<Report>, Look>
-        requires early { n.now ≤ MAX_MISSION }
-        requires stands { (rows : List Row)
-            × StandFor checked.now rows n.now ft.now pt.now self.old }
-        requires cursor { FitsCursor checked.now n.now ft.now pt.now self.old cursor.old }
-        ensures gives { IfOk result (λ told.
-            GivesNext style checked.now n.now ft.now pt.now told self.old self.new) }
-        ensures cursor { FitsCursor checked.now n.now ft.now pt.now self.new cursor.new }
-        ensures same { OnErr result (self.new ≡ self.old) }
-        ensures counted { steps.new + outs_after self.old cursor.new
-            ≤ steps.old + outs_after self.old cursor.old + 1 }
-    {
-        if cursor.stretch.is_some() {
-            return Err(Look::All);
-        }
-        let engines = Engines { ft, pt, rows: n };
-        match look {
-            Look::Older => self.next_older(style, cursor, checked, &engines, steps),
-            _ => self.next_newest(look, style, cursor, checked, &engines, steps),
-        }
-    }
-
-    /// The same by a look at newest runs.
-    #[inline(always)]
-    fn next_newest<L: Ledger>(
-        &mut self,
-        look: Look,
-        style: Style,
-        cursor: &mut Cursor,
-        checked: &Checked,
-        engines: &Engines,
-        steps: &mut Steps<L>,
-    ) -> Result<Option<Report>, Look>
-        requires stands { EnginesStand checked.now engines.now self.old }
-        requires cursor { FitsEngines checked.now engines.now self.old cursor.old }
-        requires none { cursor.old.stretch ≡ None }
-        ensures gives { IfOk result (λ told. GivesNext style checked.now engines.now.rows.now
-            engines.now.ft.now engines.now.pt.now told self.old self.new) }
-        ensures cursor { FitsEngines checked.now engines.now self.new cursor.new }
-        ensures same { OnErr result (self.new ≡ self.old) }
-        ensures counted { steps.new + outs_after self.old cursor.new
-            ≤ steps.old + outs_after self.old cursor.old + 1 }
-    {
-        let program = checked.program();
-        let found = engines.open_at_once(look, program, &self.times, cursor.out, steps);
-        let times = self.times.as_mut_slice();
-        tell_newest(style, checked, engines, times, cursor, found)
-    }
-
-    /// The same by a look at the last two runs of one formula.
-    #[inline(always)]
-    fn next_older<L: Ledger>(
-        &mut self,
-        style: Style,
-        cursor: &mut Cursor,
-        checked: &Checked,
-        engines: &Engines,
-        steps: &mut Steps<L>,
-    ) -> Result<Option<Report>, Look>
-        requires stands { EnginesStand checked.now engines.now self.old }
-        requires cursor { FitsEngines checked.now engines.now self.old cursor.old }
-        requires none { cursor.old.stretch ≡ None }
-        ensures gives { IfOk result (λ told. GivesNext style checked.now engines.now.rows.now
-            engines.now.ft.now engines.now.pt.now told self.old self.new) }
-        ensures cursor { FitsEngines checked.now engines.now self.new cursor.new }
-        ensures same { OnErr result (self.new ≡ self.old) }
-        ensures counted { steps.new + outs_after self.old cursor.new
-            ≤ steps.old + outs_after self.old cursor.old + 1 }
-    {
-        let program = checked.program();
-        let found = engines.open_here(program, &self.times, cursor.out, steps);
-        let times = self.times.as_mut_slice();
-        tell_older(style, checked, engines, times, cursor, found)
     }
 
     /// Whether no report is open after `n` rows, in either style.
@@ -268,26 +154,7 @@ impl Outs {
             → IsTrue result ↔ (open_of style checked.now rows self.now ≡ []) }
         ensures counted { steps.new ≤ steps.old + outs_after self.now cursor + 1 }
     {
-        self.none_open(cursor, checked, &Engines { ft, pt, rows: &n }, steps)
-    }
-
-    /// The same of both engines at once.
-    #[inline(always)]
-    fn none_open<L: Ledger>(
-        &self,
-        cursor: Cursor,
-        checked: &Checked,
-        engines: &Engines,
-        steps: &mut Steps<L>,
-    ) -> bool
-        requires stands { (rows : List Row)
-            × EnginesStandFor checked.now rows engines.now self.now }
-        requires cursor { FitsEngines checked.now engines.now self.now cursor }
-        ensures drained { (style : Form) (rows : List Row)
-            → EnginesStandFor checked.now rows engines.now self.now
-            → IsTrue result ↔ (open_of style checked.now rows self.now ≡ []) }
-        ensures counted { steps.new ≤ steps.old + outs_after self.now cursor + 1 }
-    {
+        let engines = Engines { ft, pt, rows: n };
         let open = engines.next_open(checked.program(), self.times.as_slice(), cursor, steps);
         open.is_none()
     }

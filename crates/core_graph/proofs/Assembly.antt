@@ -13,10 +13,10 @@ use Rattle.mltl_base.specs.Programs.{truth}
 use Rattle.mltl_base.specs.Subformulas.{same_expression, same, listed, place_of, cores_of_output, all_cores, cores_for, subformulas, bz_expressions, bz_list, ft_list, pt_list, out_list}
 use Rattle.mltl_base.proofs.Sameness.{same_sound, same_self}
 use Rattle.mltl_base.proofs.Unfolding.{each_from_all}
-use Rattle.c2po_nodes.specs.declared.nodes.Plain.{Plain}
-use Rattle.c2po_nodes.specs.declared.nodes.PlainOut.{PlainOut}
-use Rattle.c2po_nodes.specs.Nodes as plain
-use Rattle.c2po_nodes.specs.Outputs.{NamesFormulas}
+use Rattle.c2po_ast.specs.declared.nodes.Plain.{Plain}
+use Rattle.c2po_ast.specs.declared.nodes.PlainOut.{PlainOut}
+use Rattle.c2po_ast.specs.Nodes as plain
+use Rattle.c2po_ast.specs.Outputs.{NamesFormulas}
 use Rattle.core_graph.specs.declared.vertex.Vertex.{Vertex}
 use Rattle.core_graph.specs.Trees.{LabelTree, completed}
 use Rattle.core_graph.specs.Vertices.{Has}

@@ -9,7 +9,7 @@ use Rattle.std.proofs.lemmas.List.Sums.{fold_push, fold-append}
 use Rattle.std.proofs.lemmas.Bool.{true≢false}
 use Rattle.std.proofs.lemmas.Option.{get_or_from_slice_get, slice_get_within, slice_get-get_or}
 use Rattle.mltl_base.specs.declared.operators.ArithOp as arith_op
-use Rattle.c2po_nodes.proofs.Places.{at_push}
+use Rattle.c2po_ast.proofs.Places.{at_push}
 use Rattle.mltl_base.specs.Formula.{Core, ctrue, catom, cnot, neg}
 use Rattle.core_graph.specs.declared.vertex.Vertex.{Vertex}
 use Rattle.core_graph.specs.declared.vertex.Vertex.TheVariants.{Column, Const, Neg, Arith, IsTrue, Eq, Lt, Le, True, Load, Not, And, Until, Since}

@@ -9,7 +9,7 @@ use mir.Val.{bool_byte}
 use Rattle.mltl_base.specs.declared.interval.Part.{Part}
 use Rattle.mltl_base.specs.declared.interval.Part.TheVariants.{Bz, Ft, Pt}
 use Rattle.mltl_base.proofs.Unfolding.{Each, each_from_all}
-use Rattle.c2po_nodes.proofs.Places.{at_push, get_left}
+use Rattle.c2po_ast.proofs.Places.{at_push, get_left}
 use Rattle.core_graph.specs.declared.vertex.Vertex.{Vertex}
 use Rattle.core_graph.specs.declared.vertex.Operands.{Operands}
 use Rattle.core_graph.specs.declared.vertex.Operands.TheVariants.{Zero, One, Two}

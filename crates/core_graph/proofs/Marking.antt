@@ -3,8 +3,8 @@
 use Rattle.std.proofs.Common.{◌≡◌, ℕ, zero, suc, ◌<◌, Bool, true, false, cond, Some, List, [], ◌∷◌, length, take, replicate, get_or, slice_get, ◌++◌, refl, sym, subst, ap, ◌∙◌, arith, inl, inr}
 use Rattle.std.proofs.lemmas.Bool.{false≢true}
 use Rattle.std.proofs.lemmas.List.{take_all, take-append-le}
-use Rattle.c2po_nodes.specs.declared.nodes.Plain.{Plain}
-use Rattle.c2po_nodes.specs.declared.nodes.Plain.TheVariants.{Truth}
+use Rattle.c2po_ast.specs.declared.nodes.Plain.{Plain}
+use Rattle.c2po_ast.specs.declared.nodes.Plain.TheVariants.{Truth}
 use Rattle.core_graph.specs.declared.vertex.Operands.{Operands}
 use Rattle.core_graph.specs.declared.vertex.Operands.TheVariants.{Zero, One, Two}
 use Rattle.core_graph.specs.Vertices.{OperandsAreBelow}

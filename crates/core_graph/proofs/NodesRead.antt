@@ -12,11 +12,11 @@ use Rattle.mltl_base.specs.declared.operators.BetweenOp as between
 use Rattle.mltl_base.specs.declared.interval.Interval.{Interval}
 use Rattle.mltl_base.specs.Atoms.{Term, term_over, atom_over}
 use Rattle.mltl_base.specs.Formula.{Formula, Core, core, core_atom, neg, formula_over}
-use Rattle.c2po_nodes.specs.declared.nodes.Plain.{Plain}
-use Rattle.c2po_nodes.specs.declared.nodes.Plain.TheVariants.{Truth, Flag, Number, Signal, Minus, Arith, Compare, Not, Logic, Window, Between}
-use Rattle.c2po_nodes.specs.Nodes as plain
-use Rattle.c2po_nodes.proofs.Places.{at_push}
-use Rattle.c2po_nodes.proofs.Pushing as pushing
+use Rattle.c2po_ast.specs.declared.nodes.Plain.{Plain}
+use Rattle.c2po_ast.specs.declared.nodes.Plain.TheVariants.{Truth, Flag, Number, Signal, Minus, Arith, Compare, Not, Logic, Window, Between}
+use Rattle.c2po_ast.specs.Nodes as plain
+use Rattle.c2po_ast.proofs.Places.{at_push}
+use Rattle.c2po_ast.proofs.Pushing as pushing
 use Rattle.core_graph.specs.declared.vertex.Vertex.{Vertex}
 use Rattle.core_graph.specs.declared.vertex.Vertex.TheVariants as vertex
 use Rattle.core_graph.specs.Trees.{negative_sign, load_sign, sign, one, two, leaf, truth_in}

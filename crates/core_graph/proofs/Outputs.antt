@@ -16,12 +16,12 @@ use Rattle.mltl_base.proofs.Unfolding.{Each, each_from_all, Deep, fold_all}
 use Rattle.mltl_base.proofs.Booleans.{HasAtom, fold_have}
 use Rattle.mltl_base.proofs.Members.{all_from_each, each_append}
 use Rattle.mltl_base.proofs.Picking.{cores_of_engine, all_listed}
-use Rattle.c2po_nodes.specs.declared.nodes.Plain.{Plain}
-use Rattle.c2po_nodes.specs.declared.nodes.PlainOut.{PlainOut}
-use Rattle.c2po_nodes.specs.declared.nodes.PlainOut.TheVariants.{Formula, Contract}
-use Rattle.c2po_nodes.specs.Nodes as plain
-use Rattle.c2po_nodes.specs.Outputs.{asked_by, asked_over, NamesFormulas}
-use Rattle.c2po_nodes.proofs.Pushing.{length-trees}
+use Rattle.c2po_ast.specs.declared.nodes.Plain.{Plain}
+use Rattle.c2po_ast.specs.declared.nodes.PlainOut.{PlainOut}
+use Rattle.c2po_ast.specs.declared.nodes.PlainOut.TheVariants.{Formula, Contract}
+use Rattle.c2po_ast.specs.Nodes as plain
+use Rattle.c2po_ast.specs.Outputs.{asked_by, asked_over, NamesFormulas}
+use Rattle.c2po_ast.proofs.Pushing.{length-trees}
 use Rattle.core_graph.specs.declared.vertex.Vertex.{Vertex}
 use Rattle.core_graph.specs.Vertices.{tree_at, trees, Has}
 use Rattle.core_graph.specs.Images.{of_term, of_core}

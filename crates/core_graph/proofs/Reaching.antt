@@ -5,17 +5,17 @@ use Rattle.std.proofs.lemmas.Bool.{cases_lt}
 use Rattle.std.proofs.lemmas.List.{length-take-le, take_all}
 use Rattle.std.proofs.lemmas.Option.{same_Some, slice_get-get_or, slice_get_within}
 use Rattle.mltl_base.proofs.Unfolding.{Each, each_from_all}
-use Rattle.c2po_nodes.specs.declared.nodes.Plain.{Plain}
-use Rattle.c2po_nodes.specs.declared.nodes.Plain.TheVariants.{Truth, Minus, Arith, Compare, Not, Logic, Window, Between}
-use Rattle.c2po_nodes.specs.declared.nodes.PlainOut.{PlainOut}
-use Rattle.c2po_nodes.specs.declared.nodes.PlainOut.TheVariants.{Formula, Contract}
-use Rattle.c2po_nodes.specs.Nodes.{Tree, number, formula, term_in, formula_in, arithmetic, comparison, connected, windowed, ranged, tree_of, trees, IsNumber, IsFormula, IsFormed, AreSound}
+use Rattle.c2po_ast.specs.declared.nodes.Plain.{Plain}
+use Rattle.c2po_ast.specs.declared.nodes.Plain.TheVariants.{Truth, Minus, Arith, Compare, Not, Logic, Window, Between}
+use Rattle.c2po_ast.specs.declared.nodes.PlainOut.{PlainOut}
+use Rattle.c2po_ast.specs.declared.nodes.PlainOut.TheVariants.{Formula, Contract}
+use Rattle.c2po_ast.specs.Nodes.{Tree, number, formula, term_in, formula_in, arithmetic, comparison, connected, windowed, ranged, tree_of, trees, IsNumber, IsFormula, IsFormed, AreSound}
 use Rattle.mltl_base.specs.Atoms.{negative}
 use Rattle.mltl_base.specs.Formula.{atom, negation}
 use Rattle.mltl_base.specs.Reports as report
-use Rattle.c2po_nodes.specs.Outputs.{asked_by, asked_over, NamesFormulas}
-use Rattle.c2po_nodes.proofs.Places.{get_left, get_last}
-use Rattle.c2po_nodes.proofs.Pushing.{length-trees, trees_more}
+use Rattle.c2po_ast.specs.Outputs.{asked_by, asked_over, NamesFormulas}
+use Rattle.c2po_ast.proofs.Places.{get_left, get_last}
+use Rattle.c2po_ast.proofs.Pushing.{length-trees, trees_more}
 use Rattle.core_graph.specs.Vertices.{OperandsAreBelow}
 use Rattle.core_graph.specs.Listings.{asked_of_nodes}
 use Rattle.core_graph.specs.Reached.{AreOver, AreReached, IsMarked, IsOperand, NamesMarked, marked_nodes, named_by, node_operands}

@@ -6,7 +6,7 @@ use Rattle.std.proofs.lemmas.List.{length-set, length_push, length-replicate, ma
 use Rattle.std.proofs.lemmas.Option.{slice_get_within, slice_get-get_or, same_Some, none-some}
 use Rattle.mltl_base.specs.Subformulas.{listed}
 use Rattle.mltl_base.proofs.Listing.{listed_end}
-use Rattle.c2po_nodes.proofs.Places.{at_push, get_left}
+use Rattle.c2po_ast.proofs.Places.{at_push, get_left}
 use Rattle.core_graph.specs.declared.vertex.Vertex.{Vertex}
 use Rattle.core_graph.specs.declared.vertex.Operands.{Operands}
 use Rattle.core_graph.specs.declared.vertex.Operands.TheVariants.{Zero, One, Two}

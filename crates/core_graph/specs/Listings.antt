@@ -13,11 +13,11 @@ use Rattle.mltl_base.specs.declared.operators.FtOp as ft
 use Rattle.mltl_base.specs.declared.operators.PtOp as pt
 use Rattle.mltl_base.specs.declared.program.Out as out
 use Rattle.mltl_base.specs.Subformulas.{Asked, same_engine}
-use Rattle.c2po_nodes.specs.declared.nodes.Plain.{Plain}
-use Rattle.c2po_nodes.specs.declared.nodes.PlainOut.{PlainOut}
-use Rattle.c2po_nodes.specs.declared.nodes.PlainOut.TheVariants.{Formula, Contract}
-use Rattle.c2po_nodes.specs.Nodes as plain
-use Rattle.c2po_nodes.specs.Outputs.{asked_by, asked_over}
+use Rattle.c2po_ast.specs.declared.nodes.Plain.{Plain}
+use Rattle.c2po_ast.specs.declared.nodes.PlainOut.{PlainOut}
+use Rattle.c2po_ast.specs.declared.nodes.PlainOut.TheVariants.{Formula, Contract}
+use Rattle.c2po_ast.specs.Nodes as plain
+use Rattle.c2po_ast.specs.Outputs.{asked_by, asked_over}
 use Rattle.core_graph.specs.declared.vertex.Vertex.{Vertex}
 use Rattle.core_graph.specs.declared.vertex.Vertex.TheVariants.{Column, Const, Neg, Arith, IsTrue, Eq, Lt, Le, True}
 use Rattle.core_graph.specs.declared.vertex.Vertex.TheVariants.{Load, Not, And, Until, Since}

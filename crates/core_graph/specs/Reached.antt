@@ -2,11 +2,11 @@
 
 use Rattle.std.specs.Prelude.{◌≡◌, ◌⊎◌, ℕ, Bool, true, false, if◌then◌else◌, Some, List, [], ◌∷◌, length, slice_get}
 use Rattle.std.specs.Prelude.{slice_index_or, All}
-use Rattle.c2po_nodes.specs.declared.nodes.Plain.{Plain}
-use Rattle.c2po_nodes.specs.declared.nodes.Plain.TheVariants.{Truth, Flag, Number, Signal, Minus, Arith, Compare, Not}
-use Rattle.c2po_nodes.specs.declared.nodes.Plain.TheVariants.{Logic, Window, Between}
-use Rattle.c2po_nodes.specs.declared.nodes.PlainOut.{PlainOut}
-use Rattle.c2po_nodes.specs.declared.nodes.PlainOut.TheVariants.{Formula, Contract}
+use Rattle.c2po_ast.specs.declared.nodes.Plain.{Plain}
+use Rattle.c2po_ast.specs.declared.nodes.Plain.TheVariants.{Truth, Flag, Number, Signal, Minus, Arith, Compare, Not}
+use Rattle.c2po_ast.specs.declared.nodes.Plain.TheVariants.{Logic, Window, Between}
+use Rattle.c2po_ast.specs.declared.nodes.PlainOut.{PlainOut}
+use Rattle.c2po_ast.specs.declared.nodes.PlainOut.TheVariants.{Formula, Contract}
 use Rattle.core_graph.specs.declared.vertex.Operands.{Operands}
 use Rattle.core_graph.specs.declared.vertex.Operands.TheVariants.{Zero, One, Two}
 use Rattle.core_graph.specs.Vertices.{OperandsAreBelow}

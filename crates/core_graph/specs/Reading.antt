@@ -3,8 +3,8 @@
 use Rattle.std.specs.Prelude.{◌≡◌, ℕ, Some, List, length, slice_get}
 use Rattle.mltl_base.specs.Atoms.{term_over}
 use Rattle.mltl_base.specs.Formula.{Core, core, formula_over}
-use Rattle.c2po_nodes.specs.declared.nodes.Plain.{Plain}
-use Rattle.c2po_nodes.specs.Nodes as plain
+use Rattle.c2po_ast.specs.declared.nodes.Plain.{Plain}
+use Rattle.c2po_ast.specs.Nodes as plain
 use Rattle.core_graph.specs.declared.vertex.Vertex.{Vertex}
 use Rattle.core_graph.specs.Vertices.{Has, IsForest}
 use Rattle.core_graph.specs.Images.{of_term, of_core}

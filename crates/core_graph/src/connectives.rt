@@ -3,7 +3,7 @@
 ghost use Rattle.std.specs.Prelude.{◌≡◌, ◌<◌, Bool, length, OnOk, IfOk};
 ghost use Rattle.mltl_base.specs.Atoms.{Term};
 ghost use Rattle.mltl_base.specs.Formula.{Core, Formula as Plainly, cand, cuntil, csince, core, core_atom, neg};
-ghost use Rattle.c2po_nodes.specs.Nodes.{comparison, connected, constant_formula, ranged, windowed};
+ghost use Rattle.c2po_ast.specs.Nodes.{comparison, connected, constant_formula, ranged, windowed};
 ghost use Rattle.core_graph.specs.Images.{of_core, of_term};
 ghost use Rattle.core_graph.specs.Vertices.{Grows, Has, IsForest};
 ghost use Rattle.core_graph.specs.Reading.{IsCoreAt};

@@ -2,10 +2,10 @@
 
 ghost use Rattle.std.specs.Prelude.{◌≡◌, ◌<◌, Err, length, All, OnOk, IfOk, ℕ, List as Seq};
 ghost use Rattle.mltl_base.specs.Subformulas.{IsGraphOf, IsTensed};
-ghost use Rattle.c2po_nodes.specs.Nodes.{AreSound, trees};
-ghost use Rattle.c2po_nodes.specs.Outputs.{NamesFormulas, asked, asked_in};
+ghost use Rattle.c2po_ast.specs.Nodes.{AreSound, trees};
+ghost use Rattle.c2po_ast.specs.Outputs.{NamesFormulas, asked, asked_in};
 ghost use Rattle.core_graph.specs.Limits.{AreFew, AreMany};
-ghost use Rattle.c2po_nodes.specs.declared.nodes.Plain.{Plain as Node};
+ghost use Rattle.c2po_ast.specs.declared.nodes.Plain.{Plain as Node};
 ghost use Rattle.core_graph.specs.Vertices.{IsForest};
 ghost use Rattle.core_graph.specs.Reading.{AreRead};
 ghost use Rattle.core_graph.specs.Listings.{NamesNodes, asked_of_nodes};
@@ -16,7 +16,7 @@ use crate::listing::list;
 use crate::node_vertices::read;
 use crate::ops::{bz_ops, ft_ops, numbered_outs, pt_ops};
 use crate::reach::reached;
-use c2po_nodes::{Expanded, Plain, PlainOut};
+use c2po_ast::{Expanded, Plain, PlainOut};
 use mltl_base::{Columns, Graph, Part};
 use std::alloc::{AllocError, Global};
 use thiserror::Error;

@@ -1,7 +1,7 @@
 //! The hash by which vertices are found. Its key is a hash of the specification itself, so that whoever chooses numbers
 //! doesn't know it before all of them are chosen.
 
-use c2po_nodes::Plain;
+use c2po_ast::Plain;
 use mltl_base::{ArithOp, BetweenOp, CompareOp, LogicOp, WindowOp};
 use std::hash::{BuildHasher, DefaultHasher, Hash, Hasher};
 

@@ -9,7 +9,7 @@ use crate::forest::Forest;
 use crate::graph::GraphFault;
 use crate::vertex::Vertex;
 use crate::walk::completion;
-use c2po_nodes::PlainOut;
+use c2po_ast::PlainOut;
 use mltl_base::{Engine, Part};
 use std::alloc::{AllocError, Global};
 

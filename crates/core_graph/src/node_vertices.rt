@@ -1,8 +1,8 @@
 //! The vertices of the plain nodes that outputs reach: one pass over the nodes, operands first.
 
 ghost use Rattle.std.specs.Prelude.{◌≡◌, [], List, length, OnOk, IfOk};
-ghost use Rattle.c2po_nodes.specs.declared.nodes.Plain.{Plain as Node};
-ghost use Rattle.c2po_nodes.specs.Nodes.{AreSound, IsFormed, tree_of, trees};
+ghost use Rattle.c2po_ast.specs.declared.nodes.Plain.{Plain as Node};
+ghost use Rattle.c2po_ast.specs.Nodes.{AreSound, IsFormed, tree_of, trees};
 ghost use Rattle.core_graph.specs.Vertices.{Grows};
 ghost use Rattle.core_graph.specs.Reached.{marked_nodes};
 ghost use Rattle.core_graph.specs.Reading.{AreRead, IsNext, Represents};
@@ -10,7 +10,7 @@ ghost use Rattle.core_graph.specs.Reading.{AreRead, IsNext, Represents};
 use crate::forest::Forest;
 use crate::reach::marked_node;
 use crate::vertex::Vertex;
-use c2po_nodes::Plain;
+use c2po_ast::Plain;
 use std::alloc::{AllocError, Global};
 
 /// The vertices of all nodes, in order. For each that isn't marked it is true.

@@ -7,7 +7,7 @@ ghost use Rattle.core_graph.specs.Listings.{NamesNodes, arith_op, bz_op_of, ft_o
 use crate::forest::Forest;
 use crate::listing::Listing;
 use crate::vertex::Vertex;
-use c2po_nodes::PlainOut;
+use c2po_ast::PlainOut;
 use mltl_base::{ArithOp, BzOp, Engine, FtOp, List, Out, PtOp};
 use std::alloc::{AllocError, Global};
 

@@ -1,12 +1,12 @@
 //! The nodes that outputs reach: those that they name, and the operands of these.
 
 ghost use Rattle.std.specs.Prelude.{◌≡◌, ◌⊎◌, ℕ, ◌<◌, length, All, Some, slice_get, IfOk};
-ghost use Rattle.c2po_nodes.specs.declared.nodes.Plain.{Plain as Node};
+ghost use Rattle.c2po_ast.specs.declared.nodes.Plain.{Plain as Node};
 ghost use Rattle.core_graph.specs.Vertices.{OperandsAreBelow};
 ghost use Rattle.core_graph.specs.Reached.{AreOver, AreReached, IsBelow, IsMarked, IsRoot, IsOperand, Marks, MarksBelow, NamesMarked, marked_nodes, named_by, node_operands};
 
 use crate::vertex::Operands;
-use c2po_nodes::{Plain, PlainOut};
+use c2po_ast::{Plain, PlainOut};
 use std::alloc::{AllocError, Global};
 
 /// For each node whether outputs reach it: one pass over the outputs, and one over the nodes from the last.

@@ -7,9 +7,8 @@ use crate::queue::{Queue, first_read, operand};
 use crate::restart::restart;
 use crate::rows::row_of;
 use booleanizer::Bz;
-use fixed_list::Fixed;
-use mltl_base::Seat;
 use mltl_base::steps::Steps;
+use mltl_base::{Fixed, Seat};
 use obs_verify::Checked;
 use scq_ring::{Ring, Seen, Slot};
 use std::alloc::{AllocError, Global};
@@ -25,7 +24,7 @@ pub struct Ft {
 }
 
 impl Ft {
-    ghost use Rattle.std.specs.Prelude.{◌≡◌, ℕ, ◌+◌, ◌^◌, ◌<◌, ◌≤◌, List, [], ◌∷◌, ◌++◌, length, IfOk, IfSome, MatchOption};
+    ghost use Rattle.std.specs.Prelude.{◌≡◌, ℕ, ◌+◌, ◌^◌, ◌<◌, ◌≤◌, List, [], ◌∷◌, ◌++◌, length, IfOk, MatchOption};
     ghost use Rattle.mltl_base.specs.declared.limits.TheConstants.{MAX_MISSION};
     ghost use Rattle.mltl_base.specs.Atoms.{Row};
     ghost use Rattle.booleanizer.specs.Evaluation.{numbers_on};
@@ -137,29 +136,5 @@ impl Ft {
         let mut steps = Steps::<L>::start(blank);
         let queue = operand(self.queues.as_slice(), self.slab.as_slice(), i);
         queue.ring.read(queue.slots, from, &mut steps)
-    }
-
-    /// What `run_from` shows where that takes no search: the newest run, or nothing at or past the frontier. `None` where time
-    /// `from` lies in a run before the newest one.
-    #[inline(always)]
-    pub fn newest_from(&self, i: u32, from: u64) -> Option<Seen>
-        requires exists { i < instruction_count self.now }
-        requires kept { lowest_at self.now i ≤ from }
-        ensures shows { IfSome result (ShowsFrom self.now i from) }
-    {
-        let queue = operand(self.queues.as_slice(), self.slab.as_slice(), i);
-        queue.ring.read_newest(queue.slots, from)
-    }
-
-    /// What `run_from` shows where that is one of the last two runs, or nothing at or past the frontier. `None` where time `from` lies
-    /// in a run before these. It calls nothing.
-    #[inline(always)]
-    pub fn last_from(&self, i: u32, from: u64) -> Option<Seen>
-        requires exists { i < instruction_count self.now }
-        requires kept { lowest_at self.now i ≤ from }
-        ensures shows { IfSome result (ShowsFrom self.now i from) }
-    {
-        let queue = operand(self.queues.as_slice(), self.slab.as_slice(), i);
-        queue.ring.read_last(queue.slots, from)
     }
 }

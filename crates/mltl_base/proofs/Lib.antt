@@ -6,6 +6,7 @@ pub mod CoreMeaning
 pub mod CoreVerdicts
 pub mod Deciding
 pub mod Digits
+pub mod FixedMembers
 pub mod Fronts
 pub mod Graphs
 pub mod Leaves

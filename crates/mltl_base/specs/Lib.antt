@@ -5,6 +5,7 @@ pub mod Entries
 pub mod Formula
 pub mod Kinds
 pub mod Kleene
+pub mod Lending
 pub mod Letters
 pub mod Lines
 pub mod Meaning

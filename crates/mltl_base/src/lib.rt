@@ -6,6 +6,7 @@
 #![tactic(auto)]
 
 pub mod blanks;
+mod fixed;
 pub mod interval;
 pub mod laws;
 pub mod limits;
@@ -21,6 +22,7 @@ pub mod steps;
 mod table;
 pub mod text;
 
+pub use fixed::Fixed;
 pub use interval::{Engine, Interval, Part};
 pub use list::List;
 pub use name::Name;

@@ -9,14 +9,14 @@ use Rattle.mltl_base.specs.Formula as plain
 use Rattle.mltl_base.specs.Formula.{truth, falsity, atom, negation, conjunction, disjunction, implication, equivalence, finally, globally, until, release, once, historically, since}
 use Rattle.mltl_base.specs.Reports.{Output, formula, contract}
 use Rattle.mltl_base.specs.Subformulas.{Asked, IsTensed, IsOfTense, formulas_of}
-use Rattle.c2po_nodes.specs.declared.nodes.Plain.{Plain}
-use Rattle.c2po_nodes.specs.declared.nodes.PlainOut.{PlainOut}
-use Rattle.c2po_nodes.specs.declared.nodes.PlainOut.TheVariants as out
-use Rattle.c2po_nodes.specs.declared.nodes.Expanded.{Expanded}
-use Rattle.c2po_nodes.specs.Faults.{HasRanges, formula_fault}
-use Rattle.c2po_nodes.specs.Nodes.{node_formula, trees, AreSound}
-use Rattle.c2po_nodes.specs.Outputs.{IsSound, NamesFormulas, asked, asked_by}
-use Rattle.c2po_nodes.proofs.NoFaults.{neither}
+use Rattle.c2po_ast.specs.declared.nodes.Plain.{Plain}
+use Rattle.c2po_ast.specs.declared.nodes.PlainOut.{PlainOut}
+use Rattle.c2po_ast.specs.declared.nodes.PlainOut.TheVariants as out
+use Rattle.c2po_ast.specs.declared.nodes.Expanded.{Expanded}
+use Rattle.c2po_ast.specs.Faults.{HasRanges, formula_fault}
+use Rattle.c2po_ast.specs.Nodes.{node_formula, trees, AreSound}
+use Rattle.c2po_ast.specs.Outputs.{IsSound, NamesFormulas, asked, asked_by}
+use Rattle.c2po_ast.proofs.NoFaults.{neither}
 use Rattle.mltl_simplify.specs.declared.proxies.Proxy.{Proxy}
 use Rattle.mltl_simplify.specs.Nodes.{AreSimplified, ReadsNodes, out_over}
 use Rattle.mltl_simplify.specs.Outputs.{simple_asked, simple_output, simple_outputs}

@@ -6,7 +6,7 @@ use Rattle.mltl_base.specs.declared.interval.Interval.{Interval}
 use Rattle.mltl_base.specs.declared.limits.TheConstants.{MAX_BOUND}
 use Rattle.mltl_base.specs.Atoms.{Atom, holds}
 use Rattle.mltl_base.specs.Settled.{IsFuture, IsOrdered, IsPast}
-use Rattle.c2po_nodes.specs.Nodes.{IsBounded}
+use Rattle.c2po_ast.specs.Nodes.{IsBounded}
 use Rattle.mltl_simplify.specs.Forms.{AreBounded, HasAtom}
 use Rattle.mltl_simplify.specs.Simplify.{both, either, equals, has_signal, implies, summed_interval, of_truth, simp, simple_and, simple_atom, simple_equals, simple_implies, simple_not, simple_or, as_truth, unless_false, unless_truth}
 use Rattle.mltl_simplify.proofs.Cases.{finally_cases, globally_cases, historically_cases, not_cases, once_cases}

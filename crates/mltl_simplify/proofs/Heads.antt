@@ -11,9 +11,9 @@ use Rattle.mltl_base.specs.declared.operators.WindowOp.TheVariants as window
 use Rattle.mltl_base.specs.declared.operators.BetweenOp.{BetweenOp}
 use Rattle.mltl_base.specs.declared.operators.BetweenOp.TheVariants as between
 use Rattle.mltl_base.specs.Formula.{Formula, truth, falsity, atom, negation, conjunction, disjunction, implication, equivalence, finally, globally, until, release, once, historically, since}
-use Rattle.c2po_nodes.specs.declared.nodes.Plain.{Plain}
-use Rattle.c2po_nodes.specs.declared.nodes.Plain.TheVariants as node
-use Rattle.c2po_nodes.specs.Nodes.{Tree, formula, node_formula, tree_of, windowed, ranged, constant_formula, IsBounded}
+use Rattle.c2po_ast.specs.declared.nodes.Plain.{Plain}
+use Rattle.c2po_ast.specs.declared.nodes.Plain.TheVariants as node
+use Rattle.c2po_ast.specs.Nodes.{Tree, formula, node_formula, tree_of, windowed, ranged, constant_formula, IsBounded}
 use Rattle.mltl_simplify.specs.Nodes.{KeepsNone, gives_truth, keeps_truth, simple_between, simple_window}
 use Rattle.mltl_simplify.specs.Simplify.{if_joined, summed_interval, of_truth, simple_and, simple_equals, simple_finally, simple_globally, simple_historically, simple_implies, simple_not, simple_once, simple_or, as_truth}
 use Rattle.mltl_simplify.proofs.Cases.{finally_cases, globally_cases, historically_cases, once_cases, truth_is}

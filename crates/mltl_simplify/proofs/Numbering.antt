@@ -10,9 +10,9 @@ use Rattle.mltl_base.specs.Atoms.{Term, column, constant, negative, plus, minus,
 use Rattle.mltl_base.specs.Formula.{Formula, atom}
 use Rattle.mltl_base.specs.Ranges.{Range, Ranged, range, negated, summed, lessened, multiplied, divided, left_over, over_divisor, FitsTerm}
 use Rattle.mltl_base.proofs.Ranging.{HasRange, value_fits_word, divisor_not_zero}
-use Rattle.c2po_nodes.specs.Faults.{why_none, term_fault, formula_fault}
-use Rattle.c2po_nodes.specs.Nodes.{arithmetic, comparison, constant_formula}
-use Rattle.c2po_nodes.proofs.NoFaults.{neither, over_none, both_none, divisor_none}
+use Rattle.c2po_ast.specs.Faults.{why_none, term_fault, formula_fault}
+use Rattle.c2po_ast.specs.Nodes.{arithmetic, comparison, constant_formula}
+use Rattle.c2po_ast.proofs.NoFaults.{neither, over_none, both_none, divisor_none}
 use Rattle.mltl_simplify.specs.Numbers.{number_of, computed_number, compared_numbers, numbers_compare, CanDivideBy, IsNegated, IsComputed}
 use Rattle.mltl_simplify.specs.Simplify.{reads_signal, has_signal, of_truth, simp}
 

@@ -14,13 +14,13 @@ use Rattle.mltl_base.specs.declared.operators.WindowOp as window
 use Rattle.mltl_base.specs.declared.operators.BetweenOp as between
 use Rattle.mltl_base.specs.Atoms.{Term, is_true}
 use Rattle.mltl_base.specs.Formula as plain
-use Rattle.c2po_nodes.specs.declared.nodes.Plain.{Plain}
-use Rattle.c2po_nodes.specs.declared.nodes.Plain.TheVariants as node
-use Rattle.c2po_nodes.specs.Faults.{formula_fault}
-use Rattle.c2po_nodes.specs.Nodes.{Tree, number, formula, node_term, node_formula, tree_of, trees, arithmetic, comparison, connected, windowed, ranged, constant_formula, Has, Grows, IsNumber, IsFormula, IsFormed, AreSound}
-use Rattle.c2po_nodes.proofs.NoFaults.{neither}
-use Rattle.c2po_nodes.proofs.Places.{at_push}
-use Rattle.c2po_nodes.proofs.Pushing.{has_new, grows_append, sound_push, number_at, is_number, formula_in_place, is_formula}
+use Rattle.c2po_ast.specs.declared.nodes.Plain.{Plain}
+use Rattle.c2po_ast.specs.declared.nodes.Plain.TheVariants as node
+use Rattle.c2po_ast.specs.Faults.{formula_fault}
+use Rattle.c2po_ast.specs.Nodes.{Tree, number, formula, node_term, node_formula, tree_of, trees, arithmetic, comparison, connected, windowed, ranged, constant_formula, Has, Grows, IsNumber, IsFormula, IsFormed, AreSound}
+use Rattle.c2po_ast.proofs.NoFaults.{neither}
+use Rattle.c2po_ast.proofs.Places.{at_push}
+use Rattle.c2po_ast.proofs.Pushing.{has_new, grows_append, sound_push, number_at, is_number, formula_in_place, is_formula}
 use Rattle.mltl_simplify.specs.declared.proxies.Proxy.{Proxy}
 use Rattle.mltl_simplify.specs.Numbers.{compared_numbers}
 use Rattle.mltl_simplify.specs.Nodes as simplified

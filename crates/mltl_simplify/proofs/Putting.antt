@@ -7,10 +7,10 @@ use Rattle.mltl_base.specs.declared.operators.LogicOp as logic
 use Rattle.mltl_base.specs.declared.operators.WindowOp as window
 use Rattle.mltl_base.specs.declared.operators.BetweenOp as between
 use Rattle.mltl_base.specs.Formula as plain
-use Rattle.c2po_nodes.specs.declared.nodes.Plain.{Plain}
-use Rattle.c2po_nodes.specs.declared.nodes.Plain.TheVariants.{Truth, Not, Logic, Window, Between}
-use Rattle.c2po_nodes.specs.Nodes.{formula, tree_of, trees, connected, windowed, ranged, constant_formula, Has, Grows, IsBounded, IsFormed, AreSound}
-use Rattle.c2po_nodes.proofs.Pushing.{has_new, grows_same, grows_append, sound_push, formula_in_place, is_formula}
+use Rattle.c2po_ast.specs.declared.nodes.Plain.{Plain}
+use Rattle.c2po_ast.specs.declared.nodes.Plain.TheVariants.{Truth, Not, Logic, Window, Between}
+use Rattle.c2po_ast.specs.Nodes.{formula, tree_of, trees, connected, windowed, ranged, constant_formula, Has, Grows, IsBounded, IsFormed, AreSound}
+use Rattle.c2po_ast.proofs.Pushing.{has_new, grows_same, grows_append, sound_push, formula_in_place, is_formula}
 use Rattle.mltl_simplify.specs.Nodes.{AddsNodes}
 
 -- a formula that is there stands for an equal one

@@ -3,11 +3,11 @@
 use Rattle.std.proofs.Common.{◌≡◌, ℕ, ◌+◌, ◌<◌, false, Option, Some, None, List, [], ◌∷◌, ◌++◌, length, take, drop, get_or, slice_get, refl, sym, subst, ap, ◌∙◌, arith}
 use Rattle.std.proofs.lemmas.List.{take-append-drop, length-take-le}
 use Rattle.std.proofs.lemmas.Option.{slice_get_within, same_Some}
-use Rattle.c2po_nodes.specs.declared.nodes.Plain.{Plain}
-use Rattle.c2po_nodes.specs.declared.nodes.Plain.TheVariants.{Truth}
-use Rattle.c2po_nodes.specs.Nodes.{Tree, number, formula, term_in, formula_in, node_term, node_formula, tree_of, trees, Has, IsNumber, IsFormula, IsFormed}
-use Rattle.c2po_nodes.proofs.Places.{get_last, node_there}
-use Rattle.c2po_nodes.proofs.Pushing.{trees_more, length-trees, grows_append}
+use Rattle.c2po_ast.specs.declared.nodes.Plain.{Plain}
+use Rattle.c2po_ast.specs.declared.nodes.Plain.TheVariants.{Truth}
+use Rattle.c2po_ast.specs.Nodes.{Tree, number, formula, term_in, formula_in, node_term, node_formula, tree_of, trees, Has, IsNumber, IsFormula, IsFormed}
+use Rattle.c2po_ast.proofs.Places.{get_last, node_there}
+use Rattle.c2po_ast.proofs.Pushing.{trees_more, length-trees, grows_append}
 use Rattle.mltl_simplify.specs.Nodes.{AreFormed}
 
 -- what the first nodes unfold to stays

@@ -12,7 +12,7 @@ use Rattle.mltl_base.specs.Formula.{Formula, truth, falsity, atom, negation, con
 use Rattle.mltl_base.specs.Kinds.{AtomReadsKinds, ReadsKinds, ReadsSignals}
 use Rattle.mltl_base.specs.Reports.{Output, formula, contract}
 use Rattle.mltl_base.specs.Subformulas.{Asked}
-use Rattle.c2po_nodes.specs.Outputs.{asked_over, output_over}
+use Rattle.c2po_ast.specs.Outputs.{asked_over, output_over}
 use Rattle.mltl_simplify.specs.Outputs.{simple_asked, simple_output, simple_outputs}
 use Rattle.mltl_simplify.specs.Simplify.{both, either, equals, has_signal, if_joined, implies, summed_interval, of_truth, reads_signal, simp, simple_and, simple_atom, simple_equals, simple_finally, simple_globally, simple_historically, simple_implies, simple_not, simple_once, simple_or, as_truth, unless_false, unless_truth}
 use Rattle.mltl_simplify.proofs.Ending.{kept_by}

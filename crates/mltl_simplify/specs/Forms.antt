@@ -6,7 +6,7 @@ use Rattle.mltl_base.specs.Atoms.{Atom, is_true}
 use Rattle.mltl_base.specs.Formula.{Formula, truth, falsity, atom, negation, conjunction, disjunction, implication}
 use Rattle.mltl_base.specs.Formula.{equivalence, finally, globally, until, release, once, historically, since}
 use Rattle.mltl_base.specs.Formula.{EachInterval}
-use Rattle.c2po_nodes.specs.Nodes.{IsBounded}
+use Rattle.c2po_ast.specs.Nodes.{IsBounded}
 
 -- the interval from lo to hi
 abbrev pub from_to : ℕ → ℕ → Interval

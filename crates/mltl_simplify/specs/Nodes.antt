@@ -8,11 +8,11 @@ use Rattle.mltl_base.specs.declared.operators.WindowOp as window
 use Rattle.mltl_base.specs.declared.operators.BetweenOp as between
 use Rattle.mltl_base.specs.Formula as plain
 use Rattle.mltl_base.specs.Formula.{until, release, since}
-use Rattle.c2po_nodes.specs.declared.nodes.Plain.{Plain}
-use Rattle.c2po_nodes.specs.declared.nodes.PlainOut.{PlainOut}
-use Rattle.c2po_nodes.specs.declared.nodes.PlainOut.TheVariants.{Formula, Contract}
-use Rattle.c2po_nodes.specs.Faults.{formula_fault, term_fault}
-use Rattle.c2po_nodes.specs.Nodes.{Tree, number, formula, Has, Grows, AreSound}
+use Rattle.c2po_ast.specs.declared.nodes.Plain.{Plain}
+use Rattle.c2po_ast.specs.declared.nodes.PlainOut.{PlainOut}
+use Rattle.c2po_ast.specs.declared.nodes.PlainOut.TheVariants.{Formula, Contract}
+use Rattle.c2po_ast.specs.Faults.{formula_fault, term_fault}
+use Rattle.c2po_ast.specs.Nodes.{Tree, number, formula, Has, Grows, AreSound}
 use Rattle.mltl_simplify.specs.declared.proxies.Proxy.{Proxy}
 use Rattle.mltl_simplify.specs.Numbers.{number_of}
 use Rattle.mltl_simplify.specs.Simplify.{simp, simple_and, simple_or, simple_implies, simple_equals, simple_finally}

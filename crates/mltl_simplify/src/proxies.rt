@@ -1,12 +1,12 @@
 //! What each node of a specification becomes: one pass over the nodes, operands first.
 
 ghost use Rattle.std.specs.Prelude.{◌≡◌, ◌<◌, [], length, IfOk};
-ghost use Rattle.c2po_nodes.specs.Nodes.{Has, Tree};
+ghost use Rattle.c2po_ast.specs.Nodes.{Has, Tree};
 ghost use Rattle.mltl_simplify.specs.Nodes.{AreFormed, ProxiesAreNumbered, AreSimplified, IsNumbered, Places, known_number as known_at, place_at as stands_at};
 
 use crate::numbers::{compared, computed, negated};
 use crate::rules::{between, connective, negation, window};
-use c2po_nodes::{NodeList, Plain};
+use c2po_ast::{NodeList, Plain};
 use std::alloc::{AllocError, Global};
 
 /// What a node became: the index of the node that represents it, and its value, where it is an integer expression

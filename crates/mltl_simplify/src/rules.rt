@@ -3,11 +3,11 @@
 ghost use Rattle.std.specs.Prelude.{◌≡◌, ◌↔◌, ◌+◌, IsTrue, if◌then◌else◌, nat_le, None, Some, IfOk, slice_get};
 ghost use Rattle.mltl_base.specs.Formula.{Formula};
 ghost use Rattle.mltl_base.specs.declared.limits.TheConstants.{MAX_BOUND};
-ghost use Rattle.c2po_nodes.specs.Nodes.{Has, IsBounded, formula};
+ghost use Rattle.c2po_ast.specs.Nodes.{Has, IsBounded, formula};
 ghost use Rattle.mltl_simplify.specs.Nodes.{AreFormed, IsFormulaAt, KeepsNone, AddsNodes, gives_truth, keeps_truth, simple_between, simple_logic, simple_window};
 ghost use Rattle.mltl_simplify.specs.Simplify.{summed_interval as summed, simple_and, simple_equals, simple_implies, simple_not, simple_or, as_truth};
 
-use c2po_nodes::{NodeList, Plain};
+use c2po_ast::{NodeList, Plain};
 use mltl_base::limits::MAX_BOUND;
 use mltl_base::{BetweenOp, Interval, LogicOp, WindowOp};
 use std::alloc::AllocError;

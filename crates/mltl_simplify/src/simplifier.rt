@@ -5,13 +5,13 @@ ghost use Rattle.mltl_base.specs.Atoms.{Row};
 ghost use Rattle.mltl_base.specs.Formula.{Formula, wpd};
 ghost use Rattle.mltl_base.specs.Meaning.{sat};
 ghost use Rattle.mltl_base.specs.Settled.{IsOrdered, Settled};
-ghost use Rattle.c2po_nodes.specs.Faults.{HasRanges};
-ghost use Rattle.c2po_nodes.specs.Outputs.{IsSound, asked};
+ghost use Rattle.c2po_ast.specs.Faults.{HasRanges};
+ghost use Rattle.c2po_ast.specs.Outputs.{IsSound, asked};
 ghost use Rattle.mltl_simplify.specs.Nodes.{ReadsNodes, out_over};
 ghost use Rattle.mltl_simplify.specs.Outputs.{InPlaceOf, simple_outputs};
 
 use crate::proxies::{Proxy, place_at, read};
-use c2po_nodes::{Expanded, NodeList, PlainOut};
+use c2po_ast::{Expanded, NodeList, PlainOut};
 use mltl_base::List;
 use std::alloc::{AllocError, Global};
 

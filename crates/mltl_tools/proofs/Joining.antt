@@ -25,7 +25,7 @@ use Rattle.r2u2_watch.specs.Trace.{Clean}
 use Rattle.c2po_compile.specs.Compiled.{columns_by, outputs_in, signals_in}
 use Rattle.c2po_compile.specs.Image.{over_columns, plain_outputs}
 use Rattle.c2po_compile.specs.ImageFiles.{stored_columns}
-use Rattle.c2po_nodes.specs.Outputs.{asked_over}
+use Rattle.c2po_ast.specs.Outputs.{asked_over}
 use Rattle.c2po_cli.specs.Asking.{ask, compile_asked, make, served}
 use Rattle.c2po_cli.specs.Images.{IsFileBy, IsFileUnder, asked_header}
 use Rattle.c2po_cli.specs.Run.{IsMade}
@@ -34,9 +34,9 @@ use Rattle.r2u2_cli.specs.Outcome.{StopsBy, due_by, rows_over}
 use Rattle.r2u2_cli.specs.ProgramBy.{header_in, program_by, program_over}
 use Rattle.r2u2_cli.specs.Taken.{lines_in, trace_ended, trace_of}
 use Rattle.r2u2_cli.specs.Run.{IsRun}
-use Rattle.r2u2_cli.proofs.ImageFiles.{program_told}
+use Rattle.r2u2_cli.proofs.ImageFiles.{image_reported, program_told}
 use Rattle.r2u2_cli.proofs.Telling.{over_found}
-use Rattle.mltl_tools.specs.Sentence.{HasCompiled, HasWatched, ReportsFormulas, ReportsText, lines_at}
+use Rattle.mltl_tools.specs.Sentence.{AreInStyle, HasCompiled, HasWatched, ReportsFormulas, ReportsText, lines_at}
 use Rattle.mltl_tools.proofs.Outputs.{reports_below}
 use Rattle.mltl_tools.proofs.Styles.{in_style}
 
@@ -69,22 +69,27 @@ module _ (asked : RunAsked) (text bytes : List ℕ) (own_header header : Option 
   -- the columns are found, and the lines after any rows tell the formulas
   record TellsAfter : Type 0 where
     placed : columns_by (signals_in text) (option_or header own_header) ≡ Ok (stored_columns program)
-    told : (rows : List Row) (out : List ℕ) → out ≡ lines asked.style (output_names program) (outputs program) rows → ReportsFormulas asked.style text (stored_columns program) rows out
+    told : (rows : List Row) (out : List ℕ) → out ≡ lines asked.style (output_names program) (outputs program) rows → ReportsFormulas asked.style text program rows out
 
   tells : (rows : List Row) → TellsProgram asked.style bytes header program rows
   tells rows = program_told asked.style bytes header program rows runs
+
+  counted : output_names program ≡ map (λ (o : Asked). o.name) (outputs_in text) → length (outputs program) ≡ length (outputs_in text)
+  counted same = length-map program.outs _ ∙ sym (length-map program.outs _) ∙ ap length same ∙ length-map (outputs_in text) (λ (o : Asked). o.name)
 
   plain_told : (own : Columns) → columns_by (signals_in text) own_header ≡ Ok own → IsFileBy false text own bytes → TellsAfter
   plain_told own found is = record {
     placed = placed_by own (stored_columns program) (signals_in text) header own_header found ((tells []).image text own is).placed;
     told = λ rows out due.
         let says = ((tells rows).image text own is).told in
+        let reported = image_reported asked.style text own rows bytes header program runs is in
         let columns = stored_columns program in
         record {
           told_so = reports asked.style (plain_outputs columns (outputs_in text)) rows;
           lines_are = due ∙ says.lines_are;
           only = subst (λ n. All (λ (r : Report). r.out < n) (reports asked.style (plain_outputs columns (outputs_in text)) rows)) (names_count columns (outputs_in text)) (reports_below asked.style (plain_outputs columns (outputs_in text)) rows);
-          styled = λ k less. in_style asked.style k (plain_outputs columns (outputs_in text)) rows (subst (λ n. k < n) (sym (names_count columns (outputs_in text))) less);
+          one_each = counted reported.0;
+          styled = subst (λ told_so. AreInStyle asked.style (outputs program) told_so rows) reported.1 (in_style asked.style (outputs program) rows);
           words = λ k o at. record {
             in_order = says.settled.in_order k o at;
             settled = λ t w has. says.settled.settled o t w (ap (λ ws. slice_get ws t) (sym (says.settled.each_once k o at)) ∙ has);
@@ -102,13 +107,11 @@ module _ (asked : RunAsked) (text bytes : List ℕ) (own_header header : Option 
           told_so = reports asked.style (outputs program) rows;
           lines_are = due ∙ ap (λ names. lines_of_reports names (reports asked.style (outputs program) rows)) says.names;
           only = subst (λ n. All (λ (r : Report). r.out < n) (reports asked.style (outputs program) rows)) (counted says.names) (reports_below asked.style (outputs program) rows);
-          styled = λ k less. in_style asked.style k (outputs program) rows (subst (λ n. k < n) (sym (counted says.names)) less);
+          one_each = counted says.names;
+          styled = in_style asked.style (outputs program) rows;
           words = says.told;
         };
   }
-    where
-      counted : output_names program ≡ map (λ (o : Asked). o.name) (outputs_in text) → length (outputs program) ≡ length (outputs_in text)
-      counted same = length-map program.outs _ ∙ sym (length-map program.outs _) ∙ ap length same ∙ length-map (outputs_in text) (λ (o : Asked). o.name)
 
   either_told : (simplify : Bool) (own : Columns) → columns_by (signals_in text) own_header ≡ Ok own → IsFileBy simplify text own bytes → TellsAfter
   either_told false own found is = plain_told own found is

@@ -1,3 +1,4 @@
 pub mod Outputs
 pub mod Styles
 pub mod Joining
+pub mod OneByOne

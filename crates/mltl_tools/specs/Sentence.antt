@@ -1,18 +1,20 @@
 -- One sentence through both programs: what was compiled from a text, and then watched, reports the text's own
 -- formulas.
 
-use Rattle.std.specs.Prelude.{◌≡◌, ℕ, ◌<◌, true, false, Option, Some, Ok, List, ◌∷◌, ◌++◌, All, flat_map}
-use Rattle.std.specs.Prelude.{length, map, slice_get}
+use Rattle.std.specs.Prelude.{◌≡◌, ℕ, ◌<◌, ◌≤◌, true, false, Option, Some, Ok, List, [], ◌∷◌, ◌++◌, All, flat_map}
+use Rattle.std.specs.Prelude.{length, map, slice_get, take}
 use Rattle.std.specs.List.{range_with_len}
 use Rattle.std.specs.Option.{option_or}
-use Rattle.mltl_base.specs.declared.program.Columns.{Columns}
 use Rattle.mltl_base.specs.declared.program.Program.{Program}
 use Rattle.mltl_base.specs.declared.report.Report.{Report}
 use Rattle.mltl_base.specs.declared.report.Style.{Style}
+use Rattle.mltl_base.specs.declared.report.Word.{Word}
 use Rattle.mltl_base.specs.declared.report.Style.TheVariants.{Each, Runs}
 use Rattle.mltl_base.specs.Atoms.{Row}
 use Rattle.mltl_base.specs.Lines.{lines_of_reports}
-use Rattle.mltl_base.specs.Reports.{Output, AreDistinctBeside, reports_of}
+use Rattle.mltl_base.specs.Programs.{outputs}
+use Rattle.mltl_base.specs.Reports.{Output, AreDistinctBeside, reports_of, told}
+use Rattle.mltl_base.specs.Reports as known
 use Rattle.tool_io.specs.declared.host.Place.{Place}
 use Rattle.tool_io.specs.declared.host.Place.TheVariants as at
 use Rattle.tool_io.specs.Log.{Event, Took, taken, given, ended_from}
@@ -72,30 +74,44 @@ abbrev pub CountUp : ℕ → List Report → Type 0
 CountUp k told_so =
     map (λ report. report.time) (reports_of k told_so) ≡ range_with_len 0 (length (reports_of k told_so))
 
--- each row brings its own reports, and of those of output k no two neighbours have one word
-pub record AreLongestByRow (k : ℕ) (told_so : List Report) (rows : List Row) : Type 0 where
-  pub brought : List (List Report)
-  pub one_each : length brought ≡ length rows
-  pub in_turn : flat_map (λ some. some) brought ≡ told_so
-  pub longest : All (λ some. AreDistinctBeside (reports_of k some)) brought
+-- the reports of some parts, in turn
+abbrev pub in_turn : List (List Report) → List Report
+in_turn parts = flat_map (λ part. part) parts
 
--- the reports of output k are in a style: one for each time, or one for each longest stretch of the words that a row
--- brings
-abbrev pub AreInStyle : Style → ℕ → List Report → List Row → Type 0
-AreInStyle Each k told_so rows = CountUp k told_so
-AreInStyle Runs k told_so rows = AreLongestByRow k told_so rows
+-- The reports come in parts, one for each row, which are the same parts for all outputs. The first n of them report just
+-- the words that are known of each output after the first n rows, and within a part no two neighbours among the
+-- reports of an output have one word.
+pub record AreLongestByRow (outs : List Output) (told_so : List Report) (rows : List Row) : Type 0 where
+  pub parts : List (List Report)
+  pub one_each : length parts ≡ length rows
+  pub joined : in_turn parts ≡ told_so
+  pub decided : (n k : ℕ) (o : Output) → n ≤ length rows → slice_get outs k ≡ Some o
+      → told k 0 (in_turn (take n parts)) ≡ known.words (take n rows) o
+  pub longest : (k : ℕ) → k < length outs → All (λ part. AreDistinctBeside (reports_of k part)) parts
 
--- What is out reports the formulas of a text over columns of its signals, after these rows. It is the lines of
--- reports, under the names of the text's outputs and of no others. Of each output they report each time once and in
--- order, in the requested style, with a word that is the meaning of its time whatever rows follow; and no time comes
--- later than the output's worst-case delay.
-pub record ReportsFormulas (style : Style) (text : List ℕ) (columns : Columns) (rows : List Row) (out : List ℕ)
+-- two reports of one word of the first output, at times 0 and 1
+abbrev pub told_one_by_one : Word → List Report
+told_one_by_one w = record { out = 0; time = 0; word = w } ∷ record { out = 0; time = 1; word = w } ∷ []
+
+-- the reports of these outputs are in a style: one for each time, or one for each longest stretch of the words that a
+-- row decides
+abbrev pub AreInStyle : Style → List Output → List Report → List Row → Type 0
+AreInStyle Each outs told_so rows = (k : ℕ) → k < length outs → CountUp k told_so
+AreInStyle Runs outs told_so rows = AreLongestByRow outs told_so rows
+
+-- What is out reports the formulas of a text over the columns that a program stores for its signals, after these rows.
+-- It is the lines of reports, under the names of the text's outputs and of no others. Of each output they report each
+-- time once and in order, in the requested style, with a word that is the meaning of its time whatever rows follow; and
+-- no time comes later than the output's worst-case delay. The outputs of the program, which may be in simplified form,
+-- are as many, and decide which words a row brings.
+pub record ReportsFormulas (style : Style) (text : List ℕ) (program : Program) (rows : List Row) (out : List ℕ)
     : Type 0 where
   pub told_so : List Report
   pub lines_are : out ≡ lines_of_reports (map (λ o. o.name) (outputs_in text)) told_so
   pub only : All (λ report. report.out < length (outputs_in text)) told_so
-  pub styled : (k : ℕ) → k < length (outputs_in text) → AreInStyle style k told_so rows
-  pub words : (k : ℕ) (o : Output) → slice_get (plain_outputs columns (outputs_in text)) k ≡ Some o
+  pub one_each : length (outputs program) ≡ length (outputs_in text)
+  pub styled : AreInStyle style (outputs program) told_so rows
+  pub words : (k : ℕ) (o : Output) → slice_get (plain_outputs (stored_columns program) (outputs_in text)) k ≡ Some o
       → TellWords told_so k o rows
 
 -- A run over a program file reports a text: its rows are clean, its lines report the text's formulas over all rows,
@@ -108,8 +124,8 @@ pub record ReportsText (text : List ℕ) (header : Option (List ℕ)) (asked : R
   pub placed : columns_by (signals_in text) (option_or (header_in (lines_in events)) header)
       ≡ Ok (stored_columns program)
   pub clean : (rows_over asked program true (trace_of events)).stop ≡ Clean
-  pub whole : ReportsFormulas asked.style text (stored_columns program)
+  pub whole : ReportsFormulas asked.style text program
       (rows_over asked program true (trace_of events)).rows (given at.Out events)
   pub prompt : (before after : List Event) (piece : List ℕ) → events ≡ before ++ Took at.Trace piece ∷ after
-      → ReportsFormulas asked.style text (stored_columns program)
+      → ReportsFormulas asked.style text program
       (rows_over asked program false (trace_of before)).rows (given at.Out before)

@@ -8,8 +8,8 @@ mod laws;
 
 pub use c2po_cli::c2po_main;
 pub use c2po_compile::{CompileFault, HeaderWhy, Refusal, back, back_simple, compile, front};
-pub use laws::compiled_and_watched;
-pub use obs_files::{ProgramFault, image};
+pub use laws::{compiled_and_watched, one_by_one_is_not_longest};
+pub use obs_binary::{ProgramFault, image};
 pub use obs_show::instruction_table;
 pub use r2u2_cli::{demo_row, r2u2_main};
 pub use r2u2_monitor::Monitor;

@@ -42,6 +42,23 @@ impl Model for Checked {
 }
 
 impl Checked {
+    /// A well-formed program as a checked one, with the delays of its future-time instructions. No rule is tried again.
+    pub fn of(alloc: Global, program: Program, delays: Delays) -> Result<Checked, AllocError>
+        requires layout { HasLayout program }
+        requires well_formed { IsWellFormed program }
+        requires best { delays.best ≡ best_delays program.ft }
+        requires worst { delays.worst ≡ worst_delays program.ft }
+        requires in_time { All (λ rows. rows ≤ MAX_DELAY) delays.worst }
+        ensures { IfOk result (λ checked. checked ≡ program) }
+    {
+        let signal_numbers = signal_numbers_of(alloc, &program)?;
+        Ok(Checked {
+            program,
+            delays,
+            signal_numbers,
+        })
+    }
+
     /// The program.
     pub fn program(&self) -> &Program
         ensures program { result.now ≡ self.now }
@@ -78,12 +95,7 @@ pub fn verify(alloc: Global, program: Program) -> Result<Checked, VerifyFault>
     ensures kept { IfOk result (λ checked. checked ≡ program) }
 {
     let delays = check_rules(alloc, &program)?;
-    let signal_numbers = signal_numbers_of(alloc, &program)?;
-    Ok(Checked {
-        program,
-        delays,
-        signal_numbers,
-    })
+    Ok(Checked::of(alloc, program, delays)?)
 }
 
 /// Moves signal k to column k of the list, in its entry and in the instructions that read it, in one pass over both.

@@ -1,17 +1,17 @@
 -- What the calls of C return, over what C keeps: the state of a monitor, if one is open.
 
-use Rattle.std.specs.Prelude.{ℕ, ◌≡◌, ◌≢◌, ◌<◌, ◌≤◌, Option, Some, None, Result, Ok, Err, List, ◌∷◌, IfSome, IsNone}
+use Rattle.std.specs.Prelude.{ℕ, ◌≡◌, Option, Some, None, Result, Ok, Err, List, ◌∷◌}
 use Rattle.mltl_base.specs.declared.program.Program.{Program}
 use Rattle.mltl_base.specs.declared.report.Report.{Report}
 use Rattle.mltl_base.specs.declared.report.Style.{Style}
 use Rattle.mltl_base.specs.Atoms.{Row}
 use Rattle.r2u2_monitor.specs.declared.state.State.{State}
 use Rattle.r2u2_monitor.specs.Bursts.{OpensFew}
-use Rattle.r2u2_monitor.specs.Monitoring.{HasGiven, ReturnsNext, Stands, TakesRow, open_in, program_of}
+use Rattle.r2u2_monitor.specs.Monitoring.{HasGiven, Stands, TakesRow, open_in, program_of}
 use Rattle.r2u2_monitor.specs.declared.row_fault.RowFault.{RowFault}
 use Rattle.r2u2_monitor.specs.declared.row_fault.RowFault.TheVariants.{ReportsLeft, NotARow, TooManyRows}
 use Rattle.r2u2_monitor.specs.RowFaults.{IsRowCause}
-use Rattle.r2u2_c.specs.declared.codes.TheConstants.{DONE, NOT_A_ROW, NO_REPORT, REPORTS_LEFT, TOO_MANY_ROWS}
+use Rattle.r2u2_c.specs.declared.codes.TheConstants.{NOT_A_ROW, REPORTS_LEFT, TOO_MANY_ROWS}
 use Rattle.r2u2_c.specs.declared.fault.Fault.{Fault}
 use Rattle.r2u2_c.specs.declared.opened.OpeningFault.{OpeningFault}
 use Rattle.r2u2_c.specs.declared.report.Told.{Told}
@@ -80,13 +80,3 @@ abbrev pub Reports : Style → Told → Option State → Option State → Type 0
 Reports style read (Some before) (Some after) = TellsFirst style read before after
 Reports style read (Some before) None = ⊥
 Reports style read None after = ⊥
-
--- the monitor has returned its next report, if it has one, which C reads, and it is open again
-pub record AnswersNext (style : Style) (code : ℕ) (read_before read_after : Told) (before : State)
-    (after : Option State) : Type 0 where
-  pub told : Option Report
-  pub monitor : State
-  pub returns : ReturnsNext style told before monitor
-  pub back : after ≡ Some monitor
-  pub some : IfSome told (λ report. (code ≡ DONE) × (read_after ≡ shown report))
-  pub none : IsNone told → (code ≡ NO_REPORT) × (read_after ≡ read_before)

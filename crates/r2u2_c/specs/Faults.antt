@@ -2,10 +2,10 @@
 
 use Rattle.std.specs.Prelude.{ℕ, List, ◌++◌, codes, drop, length, replicate}
 use Rattle.mltl_base.specs.declared.interval.Part as part
-use Rattle.obs_files.specs.declared.fault.ProgramFault as fault
-use Rattle.obs_files.specs.Texts.{fault_text}
-use Rattle.trace_feed.specs.declared.header_fault.HeaderFault.TheVariants as header
-use Rattle.trace_feed.specs.HeaderTexts.{header_fault_text}
+use Rattle.obs_binary.specs.declared.file_fault.ProgramFault as fault
+use Rattle.obs_binary.specs.Texts.{fault_text}
+use Rattle.trace_columns.specs.declared.header_fault.HeaderFault.TheVariants as header
+use Rattle.trace_columns.specs.HeaderTexts.{header_fault_text}
 use Rattle.r2u2_c.specs.declared.fault.Fault.{Fault}
 use Rattle.r2u2_c.specs.declared.opened.OpeningFault.{OpeningFault}
 use Rattle.r2u2_c.specs.declared.opened.OpeningFault.TheVariants.{Program, NoSignals, LongHeader}

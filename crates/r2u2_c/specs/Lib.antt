@@ -1,4 +1,5 @@
 pub mod Handles
+pub mod Lending
 pub mod Reports
 pub mod Opening
 pub mod Faults

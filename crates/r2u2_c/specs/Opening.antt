@@ -4,12 +4,12 @@ use Rattle.std.specs.Prelude.{ℕ, ◌≡◌, ◌==◌, nat_lt, if◌then◌else
 use Rattle.std.specs.Prelude.{Result, Ok, Err}
 use Rattle.mltl_base.specs.declared.limits.TheConstants.{MAX_LINE_BYTES}
 use Rattle.mltl_base.specs.declared.program.Program.{Program}
-use Rattle.obs_files.specs.declared.fault.FileFault.{FileFault}
-use Rattle.obs_files.specs.declared.fault.FileFault.TheVariants as file
-use Rattle.obs_files.specs.Faults.{opened}
-use Rattle.trace_feed.specs.declared.header_fault.HeaderFault.{HeaderFault}
-use Rattle.trace_feed.specs.declared.header_fault.HeaderFault.TheVariants as header
-use Rattle.trace_feed.specs.Header.{bound_to}
+use Rattle.obs_binary.specs.declared.file_fault.FileFault.{FileFault}
+use Rattle.obs_binary.specs.declared.file_fault.FileFault.TheVariants as file
+use Rattle.obs_binary.specs.Faults.{opened}
+use Rattle.trace_columns.specs.declared.header_fault.HeaderFault.{HeaderFault}
+use Rattle.trace_columns.specs.declared.header_fault.HeaderFault.TheVariants as header
+use Rattle.trace_columns.specs.Header.{bound_to}
 use Rattle.r2u2_monitor.specs.declared.state.State.{State}
 use Rattle.r2u2_monitor.specs.Bytes.{bytes_of, monitor_bytes}
 use Rattle.r2u2_monitor.specs.Monitoring.{IsDrained, Stands, program_of}

@@ -7,9 +7,9 @@ ghost use Rattle.r2u2_c.specs.Reports.{style_of};
 
 use crate::c_monitor::R2u2;
 use crate::codes::{DONE, NOT_OPEN};
+use crate::handle::FreeOnly;
 use crate::report::{Told, next_of};
 use r2u2_monitor::Monitor;
-use std::alloc::Global;
 
 /// How much one call did, as C reads it.
 #[repr(C)]
@@ -26,7 +26,7 @@ pub struct Batch {
 #[unsafe(no_mangle)]
 pub extern "C" fn r2u2_next_many(
     it: &mut R2u2,
-    alloc: Global,
+    free: FreeOnly,
     runs: u32,
     reports: &mut [Told],
     count: &mut usize,
@@ -41,11 +41,11 @@ pub extern "C" fn r2u2_next_many(
     ensures untold { 0 < result → (reports.new ≡ reports.old) × (count.new ≡ count.old) }
     ensures codes { Contains (DONE ∷ NOT_OPEN ∷ []) result }
 {
-    match it.handle.take(alloc) {
+    match it.handle.take(free) {
         None => NOT_OPEN,
-        Some(mut monitor) => {
-            *count = fill(&mut monitor, runs, reports);
-            it.handle.put(monitor);
+        Some(mut held) => {
+            *count = fill(held.get_mut(), runs, reports);
+            it.handle.put(held);
             DONE
         }
     }

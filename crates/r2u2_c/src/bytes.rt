@@ -9,7 +9,7 @@ use crate::codes::{DONE, NO_MEMORY, REFUSED};
 use crate::exports::refuse;
 use crate::fault::Fault;
 use crate::opened::OpeningFault;
-use obs_files::open;
+use obs_binary::open;
 use r2u2_monitor::bytes::MONITOR_BYTES;
 use r2u2_monitor::monitor_bytes;
 use std::alloc::Global;

@@ -3,7 +3,7 @@
 ghost use Rattle.std.specs.Prelude.{◌≡◌, Some, length};
 ghost use Rattle.r2u2_c.specs.Queries.{MirrorsMonitor, open_most_reports, open_names, open_signals, open_width, steps_of};
 
-use crate::handle::Handle;
+use crate::handle::{FreeOnly, Handle, Held};
 use r2u2_monitor::{Monitor, most_reports, row_work};
 use std::alloc::Global;
 use std::mem;
@@ -60,9 +60,9 @@ impl R2u2 {
         }
     }
 
-    fn into_box(self, alloc: Global) -> Option<Box<Monitor>>
+    fn into_held(self, free: FreeOnly) -> Option<Held>
         ensures { MatchOption result (self.handle.value ≡ None)
-            (λ b. self.handle.value ≡ Some b.value) }
+            (λ h. self.handle.value ≡ Some h.monitor.value) }
     {
         let R2u2 {
             handle,
@@ -73,25 +73,18 @@ impl R2u2 {
             steps: _,
             most_reports: _,
         } = self;
-        handle.into_box(alloc)
-    }
-
-    /// Takes the monitor out, if one is open.
-    pub(crate) fn take(&mut self, alloc: Global) -> Option<Box<Monitor>>
-        ensures taken { MatchOption result (self.old.handle.value ≡ None)
-            (λ b. self.old.handle.value ≡ Some b.value) }
-        ensures emptied { self.new.handle.value ≡ None }
-    {
-        mem::replace(self, R2u2::empty()).into_box(alloc)
+        handle.into_held(free)
     }
 
     /// Puts a monitor in, and frees one that was open.
     pub(crate) fn put(&mut self, monitor: Box<Monitor>)
         ensures { self.new.handle.value ≡ Some monitor.value }
     {
-        let alloc = *Box::allocator(&monitor);
+        let free = FreeOnly::of(*Box::allocator(&monitor));
         let old = mem::replace(self, R2u2::of(monitor));
-        drop(old.into_box(alloc));
+        if let Some(held) = old.into_held(free) {
+            held.free();
+        }
     }
 
     /// Whether a monitor is open.
@@ -99,20 +92,22 @@ impl R2u2 {
         ensures open { IsTrue result ↔ IsSome self.old.handle.value }
         ensures kept { self.new.handle.value ≡ self.old.handle.value }
     {
-        match self.handle.take(alloc) {
+        match self.handle.take(FreeOnly::of(alloc)) {
             None => false,
-            Some(monitor) => {
-                self.handle.put(monitor);
+            Some(held) => {
+                self.handle.put(held);
                 true
             }
         }
     }
 
     /// Frees the monitor, if one is open.
-    pub(crate) fn close(&mut self, alloc: Global)
+    pub(crate) fn close(&mut self, free: FreeOnly)
         ensures { self.new.handle.value ≡ None }
     {
-        drop(self.take(alloc));
+        if let Some(held) = mem::replace(self, R2u2::empty()).into_held(free) {
+            held.free();
+        }
     }
 
     /// The number of rows that the monitor has taken; 0 where none is open.

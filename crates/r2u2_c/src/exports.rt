@@ -1,12 +1,12 @@
 //! The calls of C.
 
-ghost use Rattle.std.specs.Prelude.{◌≡◌, ◌≢◌, ◌↔◌, ◌<◌, ◌≤◌, [], ◌∷◌, Contains, IsNone, IsSome, IsSomeAnd, IfErr, IfOk, IfSome, None, Some};
+ghost use Rattle.std.specs.Prelude.{◌≡◌, ◌≢◌, ◌↔◌, ◌<◌, ◌≤◌, [], ◌∷◌, Contains, IsSome, IsSomeAnd, IfErr, IfOk, None};
 ghost use Rattle.r2u2_monitor.specs.Monitoring.{IsDrained};
 ghost use Rattle.r2u2_c.specs.declared.opened.OpeningFault.TheVariants.{Memory};
-ghost use Rattle.r2u2_c.specs.Exports.{AnswersNext, BeginsAgain, BringsFew, IsHeldBack, Opens, Refuses, Takes, Reports, row_cause};
+ghost use Rattle.r2u2_c.specs.Exports.{BeginsAgain, BringsFew, IsHeldBack, Opens, Refuses, Takes, Reports, row_cause};
 ghost use Rattle.r2u2_c.specs.Faults.{opening_fault};
 ghost use Rattle.r2u2_c.specs.Opening.{opened_by, program_under};
-ghost use Rattle.r2u2_c.specs.Reports.{shown, style_of};
+ghost use Rattle.r2u2_c.specs.Reports.{style_of};
 
 use crate::c_monitor::R2u2;
 use crate::codes::{
@@ -14,12 +14,11 @@ use crate::codes::{
     TOO_MANY_ROWS,
 };
 use crate::fault::Fault;
-use crate::handle::Handle;
+use crate::handle::FreeOnly;
 use crate::opened::{OpeningFault, open_monitor, open_under};
-use crate::report::{Told, next_at_once_of, next_kept_of, next_of};
+use crate::report::{Told, next_of};
 use crate::row_why::RowWhy;
-use mltl_base::Report;
-use r2u2_monitor::{Look, Monitor, RowFault};
+use r2u2_monitor::RowFault;
 use std::alloc::Global;
 
 /// Opens the program that these bytes spell. Rows have the columns that it was compiled for.
@@ -90,7 +89,7 @@ pub(crate) fn refuse(why: OpeningFault, fault: &mut Fault) -> u32
 
 /// Takes the next row, with one number for each column, or returns why it isn't taken.
 #[unsafe(no_mangle)]
-pub extern "C" fn r2u2_row(it: &mut R2u2, alloc: Global, fields: &[i64], why: &mut RowWhy) -> u32
+pub extern "C" fn r2u2_row(it: &mut R2u2, free: FreeOnly, fields: &[i64], why: &mut RowWhy) -> u32
     ensures takes { result ≡ DONE → Takes fields.now it.old.handle.value it.new.handle.value }
     ensures few { result ≡ DONE → BringsFew fields.now it.old.handle.value it.new.handle.value }
     ensures not_open { (result ≡ NOT_OPEN) ↔ (it.old.handle.value ≡ None) }
@@ -101,12 +100,12 @@ pub extern "C" fn r2u2_row(it: &mut R2u2, alloc: Global, fields: &[i64], why: &m
     ensures codes { Contains
         (DONE ∷ NOT_OPEN ∷ REPORTS_LEFT ∷ NOT_A_ROW ∷ TOO_MANY_ROWS ∷ []) result }
 {
-    match it.handle.take(alloc) {
+    match it.handle.take(free) {
         None => NOT_OPEN,
-        Some(mut monitor) => {
-            let taken = monitor.take(fields);
-            it.rows = monitor.rows_taken();
-            it.handle.put(monitor);
+        Some(mut held) => {
+            let taken = held.get_mut().take(fields);
+            it.rows = held.get().rows_taken();
+            it.handle.put(held);
             tell_taken(taken, why)
         }
     }
@@ -129,7 +128,7 @@ pub(crate) fn tell_taken(taken: Result<(), RowFault>, why: &mut RowWhy) -> u32
 
 /// Gives the next report of the rows so far: of each time where `runs` is 0, else of each longest stretch of one word.
 #[unsafe(no_mangle)]
-pub extern "C" fn r2u2_next(it: &mut R2u2, alloc: Global, runs: u32, report: &mut Told) -> u32
+pub extern "C" fn r2u2_next(it: &mut R2u2, free: FreeOnly, runs: u32, report: &mut Told) -> u32
     ensures tells { result ≡ DONE
         → Reports (style_of runs) report.new it.old.handle.value it.new.handle.value }
     ensures not_open { (result ≡ NOT_OPEN) ↔ (it.old.handle.value ≡ None) }
@@ -138,134 +137,36 @@ pub extern "C" fn r2u2_next(it: &mut R2u2, alloc: Global, runs: u32, report: &mu
     ensures untold { 0 < result → report.new ≡ report.old }
     ensures codes { Contains (DONE ∷ NOT_OPEN ∷ NO_REPORT ∷ []) result }
 {
-    match it.handle.take(alloc) {
+    match it.handle.take(free) {
         None => NOT_OPEN,
-        Some(monitor) => next_in(&mut it.handle, runs, report, monitor),
-    }
-}
-
-/// Gives the next report of a monitor that was taken out, and puts it back. Where an earlier call found more than it gave it ends
-/// here, and else by a jump. Only the last of the calls that it may jump to calls anything.
-#[inline(always)]
-fn next_in(handle: &mut Handle, runs: u32, report: &mut Told, monitor: Box<Monitor>) -> u32
-    requires empty { handle.old.value ≡ None }
-    ensures { AnswersNext (style_of runs) result
-        report.old report.new monitor.value handle.new.value }
-{
-    let mut monitor = monitor;
-    match next_kept_of(&mut monitor, runs) {
-        None => formulas_in(handle, runs, report, monitor),
-        Some(told) => answer(handle, report, monitor, Some(told)),
-    }
-}
-
-/// The same by a look at the newest runs of formulas. It calls nothing, so it needs no stack.
-#[inline(never)]
-fn formulas_in(handle: &mut Handle, runs: u32, report: &mut Told, monitor: Box<Monitor>) -> u32
-    requires empty { handle.old.value ≡ None }
-    ensures { AnswersNext (style_of runs) result
-        report.old report.new monitor.value handle.new.value }
-{
-    let mut monitor = monitor;
-    match next_at_once_of(&mut monitor, Look::Formulas, runs) {
-        Ok(told) => answer(handle, report, monitor, told),
-        Err(Look::Contract) => contract_in(handle, runs, report, monitor),
-        Err(_) => older_in(handle, runs, report, monitor),
-    }
-}
-
-/// The same by a look at the newest runs of a contract.
-#[inline(never)]
-fn contract_in(handle: &mut Handle, runs: u32, report: &mut Told, monitor: Box<Monitor>) -> u32
-    requires empty { handle.old.value ≡ None }
-    ensures { AnswersNext (style_of runs) result
-        report.old report.new monitor.value handle.new.value }
-{
-    let mut monitor = monitor;
-    match next_at_once_of(&mut monitor, Look::Contract, runs) {
-        Ok(told) => answer(handle, report, monitor, told),
-        Err(Look::All) => onward_in(handle, runs, report, monitor),
-        Err(_) => search_in(handle, runs, report, monitor),
-    }
-}
-
-/// The same by a look at the newest runs of all outputs from the next one on.
-#[inline(never)]
-fn onward_in(handle: &mut Handle, runs: u32, report: &mut Told, monitor: Box<Monitor>) -> u32
-    requires empty { handle.old.value ≡ None }
-    ensures { AnswersNext (style_of runs) result
-        report.old report.new monitor.value handle.new.value }
-{
-    let mut monitor = monitor;
-    match next_at_once_of(&mut monitor, Look::All, runs) {
-        Ok(told) => answer(handle, report, monitor, told),
-        Err(_) => search_in(handle, runs, report, monitor),
-    }
-}
-
-/// The same by a search of one formula's runs.
-#[inline(never)]
-fn older_in(handle: &mut Handle, runs: u32, report: &mut Told, monitor: Box<Monitor>) -> u32
-    requires empty { handle.old.value ≡ None }
-    ensures { AnswersNext (style_of runs) result
-        report.old report.new monitor.value handle.new.value }
-{
-    let mut monitor = monitor;
-    match next_at_once_of(&mut monitor, Look::Older, runs) {
-        Ok(told) => answer(handle, report, monitor, told),
-        Err(_) => search_in(handle, runs, report, monitor),
-    }
-}
-
-/// The same by a search of all outputs' runs.
-#[inline(never)]
-fn search_in(handle: &mut Handle, runs: u32, report: &mut Told, monitor: Box<Monitor>) -> u32
-    requires empty { handle.old.value ≡ None }
-    ensures { AnswersNext (style_of runs) result
-        report.old report.new monitor.value handle.new.value }
-{
-    let mut monitor = monitor;
-    let told = next_of(&mut monitor, runs);
-    answer(handle, report, monitor, told)
-}
-
-/// Puts a monitor back, and shows C the report that it gave, if it gave one.
-#[inline(always)]
-fn answer(
-    handle: &mut Handle,
-    report: &mut Told,
-    monitor: Box<Monitor>,
-    told: Option<Report>,
-) -> u32
-    requires empty { handle.old.value ≡ None }
-    ensures back { handle.new.value ≡ Some monitor.value }
-    ensures some { IfSome told (λ next. (result ≡ DONE) × (report.new ≡ shown next)) }
-    ensures none { IsNone told → (result ≡ NO_REPORT) × (report.new ≡ report.old) }
-{
-    handle.put(monitor);
-    match told {
-        None => NO_REPORT,
-        Some(next) => {
-            *report = Told::of(next);
-            DONE
+        Some(mut held) => {
+            let next = next_of(held.get_mut(), runs);
+            it.handle.put(held);
+            match next {
+                None => NO_REPORT,
+                Some(next) => {
+                    *report = Told::of(next);
+                    DONE
+                }
+            }
         }
     }
 }
 
 /// Resets the open monitor to its state before the first row, in the memory that it has.
 #[unsafe(no_mangle)]
-pub extern "C" fn r2u2_reset(it: &mut R2u2, alloc: Global) -> u32
+pub extern "C" fn r2u2_reset(it: &mut R2u2, free: FreeOnly) -> u32
     ensures begins { result ≡ DONE → BeginsAgain it.old.handle.value it.new.handle.value }
     ensures not_open { (result ≡ NOT_OPEN) ↔ (it.old.handle.value ≡ None) }
     ensures kept { 0 < result → it.new.handle.value ≡ it.old.handle.value }
     ensures codes { Contains (DONE ∷ NOT_OPEN ∷ []) result }
 {
-    match it.handle.take(alloc) {
+    match it.handle.take(free) {
         None => NOT_OPEN,
-        Some(mut monitor) => {
-            monitor.reset();
+        Some(mut held) => {
+            held.get_mut().reset();
             it.rows = 0;
-            it.handle.put(monitor);
+            it.handle.put(held);
             DONE
         }
     }
@@ -273,8 +174,8 @@ pub extern "C" fn r2u2_reset(it: &mut R2u2, alloc: Global) -> u32
 
 /// Frees the monitor, if one is open.
 #[unsafe(no_mangle)]
-pub extern "C" fn r2u2_close_struct(it: &mut R2u2, alloc: Global)
+pub extern "C" fn r2u2_close_struct(it: &mut R2u2, free: FreeOnly)
     ensures closed { it.new.handle.value ≡ None }
 {
-    it.close(alloc);
+    it.close(free);
 }

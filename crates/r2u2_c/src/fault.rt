@@ -6,7 +6,7 @@ ghost use Rattle.r2u2_c.specs.Faults.{fault_kind, opening_fault, fault_part, fau
 use crate::fault_text::text_of_fault;
 use crate::opened::OpeningFault;
 use mltl_base::Part;
-use obs_files::ProgramFault;
+use obs_binary::ProgramFault;
 
 /// The fault of an opening as C reads it.
 #[repr(C)]

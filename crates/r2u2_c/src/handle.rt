@@ -4,7 +4,9 @@ ghost use Rattle.std.specs.Prelude.{◌≡◌, None, Some, MatchOption, Option a
 ghost use Rattle.std.specs.Coded.{coded_option};
 ghost use Rattle.r2u2_monitor.specs.declared.state.State.{State};
 ghost use Rattle.r2u2_monitor.specs.contracts.monitor.Monitor.{the_row};
+ghost use Rattle.std.specs.Borrow.{sem};
 ghost use Rattle.r2u2_c.specs.Handles.{handle_owns};
+ghost use Rattle.r2u2_c.specs.Lending.{lends_monitor};
 
 use crate::boxes::Loose;
 use r2u2_monitor::Monitor;
@@ -18,6 +20,52 @@ use std::ptr::null_mut;
 pub struct Handle {
     at: *mut u8,
     pub ghost value: { Maybe State } by { coded_option the_row.coded },
+}
+
+/// The heap as a call has it that allocates nothing: by it a handle's monitor is taken out and freed. Only this file sees the
+/// allocator in it. It has no bytes, so C passes nothing for it.
+#[repr(C)]
+#[derive(Clone, Copy)]
+pub struct FreeOnly {
+    heap: Global,
+}
+
+impl FreeOnly {
+    /// The heap, to free alone.
+    pub(crate) fn of(heap: Global) -> FreeOnly {
+        FreeOnly { heap }
+    }
+}
+
+/// A monitor that was taken out of its handle. It is put back or freed, since it can't be dropped, and it shows the monitor
+/// without its box, which has an allocator.
+pub(crate) struct Held {
+    monitor: Box<Monitor>,
+}
+
+impl Held {
+    /// The monitor.
+    #[inline(always)]
+    pub(crate) fn get(&self) -> &Monitor
+        ensures { result.now ≡ self.now.monitor.value }
+    {
+        &self.monitor
+    }
+
+    /// The monitor, to be changed in place.
+    #[inline(always)]
+    pub(crate) fn get_mut(&mut self) -> &mut Monitor
+        ensures* writes_back { sem 𝓛 (lends_monitor self.entry result) }
+        ensures value { result.now ≡ self.old.monitor.value }
+    {
+        &mut self.monitor
+    }
+
+    /// Frees the monitor.
+    pub(crate) fn free(self) {
+        let Held { monitor } = self;
+        drop(monitor);
+    }
 }
 
 impl Model for Handle {
@@ -55,31 +103,34 @@ impl Handle {
         }
     }
 
-    pub(crate) fn into_box(self, alloc: Global) -> Option<Box<Monitor>>
-        ensures { MatchOption result (self.value ≡ None) (λ b. self.value ≡ Some b.value) }
+    pub(crate) fn into_held(self, free: FreeOnly) -> Option<Held>
+        ensures { MatchOption result (self.value ≡ None) (λ h. self.value ≡ Some h.monitor.value) }
     {
-        match self.into_loose(alloc) {
+        match self.into_loose(free.heap) {
             None => None,
-            Some(loose) => Some(loose.into_box()),
+            Some(loose) => Some(Held {
+                monitor: loose.into_box(),
+            }),
         }
     }
 
     /// Takes the monitor out, if one is open.
     #[inline(always)]
-    pub(crate) fn take(&mut self, alloc: Global) -> Option<Box<Monitor>>
+    pub(crate) fn take(&mut self, free: FreeOnly) -> Option<Held>
         ensures taken { MatchOption result (self.old.value ≡ None)
-            (λ b. self.old.value ≡ Some b.value) }
+            (λ h. self.old.value ≡ Some h.monitor.value) }
         ensures emptied { self.new.value ≡ None }
     {
-        mem::replace(self, Handle::empty()).into_box(alloc)
+        mem::replace(self, Handle::empty()).into_held(free)
     }
 
     /// Puts a monitor in, where none is. That there is none is proved, so nothing tests it.
     #[inline(always)]
-    pub(crate) fn put(&mut self, monitor: Box<Monitor>)
+    pub(crate) fn put(&mut self, held: Held)
         requires empty { self.old.value ≡ None }
-        ensures { self.new.value ≡ Some monitor.value }
+        ensures { self.new.value ≡ Some held.monitor.value }
     {
+        let Held { monitor } = held;
         mem::replace(self, Handle::with(monitor)).let_go();
     }
 

@@ -7,11 +7,11 @@ ghost use Rattle.r2u2_c.specs.Opening.{Starts, bound_by, of_file, of_header, ope
 
 use mltl_base::limits::MAX_LINE_BYTES;
 use mltl_base::{Name, Program};
-use obs_files::{FileFault, ProgramFault, open};
+use obs_binary::{FileFault, ProgramFault, open};
 use obs_verify::Checked;
 use r2u2_monitor::Monitor;
 use std::alloc::{AllocError, Global};
-use trace_feed::{HeaderFault, bind_to_header};
+use trace_columns::{HeaderFault, bind_to_header};
 
 /// Why no monitor is opened.
 #[derive(Drop)]

@@ -1,14 +1,14 @@
 //! What C may ask of a monitor. None of these calls changes it.
 
-ghost use Rattle.std.specs.Prelude.{◌≡◌, ◌<◌, ◌≤◌, IsSomeAnd, Some, length, slice_get, slice_index};
+ghost use Rattle.std.specs.Prelude.{◌≡◌, ◌↔◌, ◌<◌, ◌≤◌, IsSomeAnd, Some, length, slice_get, slice_index};
 ghost use Rattle.r2u2_c.specs.Queries.{TellsSignal, WritesName, open_delays, open_most_reports, open_names, output_kinds_of, output_number, open_rows, open_signals, steps_of, open_width};
 
 use crate::c_monitor::R2u2;
+use crate::handle::FreeOnly;
 use crate::names::write_name;
 use crate::version::VERSION;
 use mltl_base::{Out, StoredSignal};
 use r2u2_monitor::{Monitor, delay_of};
-use std::alloc::Global;
 
 /// The version of the library.
 #[unsafe(no_mangle)]
@@ -36,19 +36,19 @@ pub extern "C" fn r2u2_outputs(it: &R2u2) -> u32
 
 /// Writes the name of output `k`, counted from 0, to the start of a buffer, and returns its length.
 #[unsafe(no_mangle)]
-pub extern "C" fn r2u2_name(it: &mut R2u2, alloc: Global, k: u32, buffer: &mut [u8]) -> u32
+pub extern "C" fn r2u2_name(it: &mut R2u2, free: FreeOnly, k: u32, buffer: &mut [u8]) -> u32
     ensures named { 0 < result → IsSomeAnd (slice_get (open_names it.old.handle.value) k)
         (λ name. WritesName name result buffer.old buffer.new) }
     ensures untold { result ≡ 0 → buffer.new ≡ buffer.old }
-    ensures enough { k < length (open_names it.old.handle.value) → 64 ≤ length buffer.old
-        → 0 < result }
+    ensures fits { (0 < result) ↔ IsSomeAnd (slice_get (open_names it.old.handle.value) k)
+        (λ name. length name ≤ length buffer.old) }
     ensures kept { it.new.handle.value ≡ it.old.handle.value }
 {
-    match it.handle.take(alloc) {
+    match it.handle.take(free) {
         None => 0,
-        Some(monitor) => {
-            let length = name_in(&monitor, k, buffer);
-            it.handle.put(monitor);
+        Some(held) => {
+            let length = name_in(held.get(), k, buffer);
+            it.handle.put(held);
             length
         }
     }
@@ -64,15 +64,15 @@ pub extern "C" fn r2u2_rows(it: &R2u2) -> u64
 
 /// Returns the worst-case delay of output `k`, in rows; 0 where none is open or there is no such output.
 #[unsafe(no_mangle)]
-pub extern "C" fn r2u2_delay(it: &mut R2u2, alloc: Global, k: u32) -> u32
+pub extern "C" fn r2u2_delay(it: &mut R2u2, free: FreeOnly, k: u32) -> u32
     ensures delay { result ≡ slice_index (open_delays it.old.handle.value) k }
     ensures kept { it.new.handle.value ≡ it.old.handle.value }
 {
-    match it.handle.take(alloc) {
+    match it.handle.take(free) {
         None => 0,
-        Some(monitor) => {
-            let delay = delay_of(monitor.checked(), k).unwrap_or(0);
-            it.handle.put(monitor);
+        Some(held) => {
+            let delay = delay_of(held.get().checked(), k).unwrap_or(0);
+            it.handle.put(held);
             delay
         }
     }
@@ -96,15 +96,15 @@ pub extern "C" fn r2u2_most_reports(it: &R2u2) -> u64
 
 /// The kind of output `k`: 1 a formula, 2 an assume-guarantee contract; 0 where none is open or there is no such output.
 #[unsafe(no_mangle)]
-pub extern "C" fn r2u2_output_kind(it: &mut R2u2, alloc: Global, k: u32) -> u32
+pub extern "C" fn r2u2_output_kind(it: &mut R2u2, free: FreeOnly, k: u32) -> u32
     ensures kind { result ≡ slice_index (output_kinds_of it.old.handle.value) k }
     ensures kept { it.new.handle.value ≡ it.old.handle.value }
 {
-    match it.handle.take(alloc) {
+    match it.handle.take(free) {
         None => 0,
-        Some(monitor) => {
-            let kind = output_kind_in(&monitor, k);
-            it.handle.put(monitor);
+        Some(held) => {
+            let kind = output_kind_in(held.get(), k);
+            it.handle.put(held);
             kind
         }
     }
@@ -123,7 +123,7 @@ pub extern "C" fn r2u2_signals(it: &R2u2) -> u32
 #[unsafe(no_mangle)]
 pub extern "C" fn r2u2_signal(
     it: &mut R2u2,
-    alloc: Global,
+    free: FreeOnly,
     k: u32,
     column: &mut u32,
     kind: &mut u32,
@@ -135,15 +135,15 @@ pub extern "C" fn r2u2_signal(
         (λ signal. WritesName signal.name result buffer.old buffer.new) }
     ensures untold { result ≡ 0 → (column.new ≡ column.old)
         × (kind.new ≡ kind.old) × (buffer.new ≡ buffer.old) }
-    ensures enough { k < length (open_signals it.old.handle.value) → 64 ≤ length buffer.old
-        → 0 < result }
+    ensures fits { (0 < result) ↔ IsSomeAnd (slice_get (open_signals it.old.handle.value) k)
+        (λ signal. length signal.name ≤ length buffer.old) }
     ensures kept { it.new.handle.value ≡ it.old.handle.value }
 {
-    match it.handle.take(alloc) {
+    match it.handle.take(free) {
         None => 0,
-        Some(monitor) => {
-            let length = signal_in(&monitor, k, column, kind, buffer);
-            it.handle.put(monitor);
+        Some(held) => {
+            let length = signal_in(held.get(), k, column, kind, buffer);
+            it.handle.put(held);
             length
         }
     }
@@ -154,8 +154,8 @@ fn name_in(monitor: &Monitor, k: u32, buffer: &mut [u8]) -> u32
     ensures named { 0 < result → IsSomeAnd (slice_get (open_names (Some monitor.now)) k)
         (λ name. WritesName name result buffer.old buffer.new) }
     ensures untold { result ≡ 0 → buffer.new ≡ buffer.old }
-    ensures enough { k < length (open_names (Some monitor.now)) → 64 ≤ length buffer.old
-        → 0 < result }
+    ensures fits { (0 < result) ↔ IsSomeAnd (slice_get (open_names (Some monitor.now)) k)
+        (λ name. length name ≤ length buffer.old) }
 {
     match monitor.checked().program().outs.as_slice().get(k as usize) {
         None => 0,
@@ -188,8 +188,8 @@ fn signal_in(monitor: &Monitor, k: u32, column: &mut u32, kind: &mut u32, buffer
         (λ signal. WritesName signal.name result buffer.old buffer.new) }
     ensures untold { result ≡ 0 → (column.new ≡ column.old)
         × (kind.new ≡ kind.old) × (buffer.new ≡ buffer.old) }
-    ensures enough { k < length (open_signals (Some monitor.now)) → 64 ≤ length buffer.old
-        → 0 < result }
+    ensures fits { (0 < result) ↔ IsSomeAnd (slice_get (open_signals (Some monitor.now)) k)
+        (λ signal. length signal.name ≤ length buffer.old) }
 {
     match monitor
         .checked()
@@ -208,7 +208,7 @@ fn tell_signal(signal: &StoredSignal, column: &mut u32, kind: &mut u32, buffer: 
     ensures named { 0 < result → WritesName signal.now.name result buffer.old buffer.new }
     ensures untold { result ≡ 0 → (column.new ≡ column.old)
         × (kind.new ≡ kind.old) × (buffer.new ≡ buffer.old) }
-    ensures enough { 64 ≤ length buffer.old → 0 < result }
+    ensures fits { (0 < result) ↔ (length signal.now.name ≤ length buffer.old) }
 {
     let length = write_name(&signal.name, buffer);
     if length > 0 {

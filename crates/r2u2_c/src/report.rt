@@ -1,11 +1,11 @@
 //! Reports as C reads them.
 
-ghost use Rattle.std.specs.Prelude.{◌≡◌, IfOk, IfSome, IsNone, OnErr, Some};
+ghost use Rattle.std.specs.Prelude.{◌≡◌};
 ghost use Rattle.r2u2_monitor.specs.Monitoring.{ReturnsNext};
 ghost use Rattle.r2u2_c.specs.Reports.{shown, style_of, word_number};
 
 use mltl_base::{Report, Style, Word};
-use r2u2_monitor::{Look, Monitor};
+use r2u2_monitor::Monitor;
 
 /// A report as C reads it: the word of output `output`, counted from 0, at `time`, in rows from 0.
 #[repr(C)]
@@ -30,24 +30,10 @@ impl Told {
     }
 }
 
-/// The number of a word. That of a verdict is the verdict, so a report of a formula takes no table.
-#[inline(always)]
 fn number_of(word: Word) -> u32
     ensures { result ≡ word_number word }
 {
     match word {
-        Word::F => 0,
-        Word::T => 1,
-        status => number_of_status(status),
-    }
-}
-
-/// The number of a contract's status.
-#[inline(always)]
-fn number_of_status(status: Word) -> u32
-    ensures { result ≡ word_number status }
-{
-    match status {
         Word::F => 0,
         Word::T => 1,
         Word::Inactive => 2,
@@ -69,28 +55,4 @@ pub(crate) fn next_of(monitor: &mut Monitor, runs: u32) -> Option<Report>
     ensures { ReturnsNext (style_of runs) result monitor.old monitor.new }
 {
     monitor.next(style_by(runs))
-}
-
-/// The next report, where an earlier call found more than it gave.
-#[inline(always)]
-pub(crate) fn next_kept_of(monitor: &mut Monitor, runs: u32) -> Option<Report>
-    ensures returns { IfSome result (λ told.
-        ReturnsNext (style_of runs) (Some told) monitor.old monitor.new) }
-    ensures same { IsNone result → monitor.new ≡ monitor.old }
-{
-    monitor.next_kept(style_by(runs))
-}
-
-/// The next report, where the look tells it.
-#[inline(always)]
-pub(crate) fn next_at_once_of(
-    monitor: &mut Monitor,
-    look: Look,
-    runs: u32,
-) -> Result<Option<Report>, Look>
-    ensures returns { IfOk result (λ told.
-        ReturnsNext (style_of runs) told monitor.old monitor.new) }
-    ensures same { OnErr result (monitor.new ≡ monitor.old) }
-{
-    monitor.next_at_once(look, style_by(runs))
 }

@@ -1,6 +1,6 @@
 //! Rows by one call of C, with their reports.
 
-ghost use Rattle.std.specs.Prelude.{◌≡◌, ◌≢◌, ◌↔◌, ◌⊎◌, ◌*◌, ◌<◌, ◌≤◌, [], ◌∷◌, Contains, IfErr, IfOk, IsOk, None, OnErr, drop, length, take};
+ghost use Rattle.std.specs.Prelude.{◌≡◌, ◌≢◌, ◌↔◌, ◌⊎◌, ◌*◌, ◌<◌, ◌≤◌, [], ◌∷◌, Contains, IfErr, IfOk, IsOk, None, OnErr, OnOk, drop, length, take};
 ghost use Rattle.r2u2_monitor.specs.Monitoring.{IsDrained};
 ghost use Rattle.r2u2_monitor.specs.RowFaults.{IsReady, IsRowCause};
 ghost use Rattle.r2u2_c.specs.Batches.{TakesMany, TakesOne, TakesRows, WritesFront, first_row};
@@ -12,18 +12,19 @@ use crate::batches::{Batch, fill};
 use crate::c_monitor::R2u2;
 use crate::codes::{DONE, NO_ROOM, NOT_A_ROW, NOT_OPEN, REPORTS_LEFT, TOO_MANY_ROWS};
 use crate::exports::tell_taken;
+use crate::handle::FreeOnly;
 use crate::report::Told;
 use crate::row_why::RowWhy;
 use r2u2_monitor::{Monitor, RowFault};
-use std::alloc::Global;
 
 /// Takes rows one after another, of as many numbers each as the program has columns, and writes the reports of each to the
-/// front of `reports`. It stops before a row whose reports might not fit or that can't be taken; where that is the first, it
-/// returns why. `batch` says how many rows and reports there were.
+/// front of `reports`. It stops before a row whose reports might not fit or that can't be taken. If that is the first row, it
+/// returns why; so at `DONE` at least one row was taken, unless there were no numbers. `batch` says how many rows and reports
+/// there were.
 #[unsafe(no_mangle)]
 pub extern "C" fn r2u2_row_many(
     it: &mut R2u2,
-    alloc: Global,
+    free: FreeOnly,
     runs: u32,
     numbers: &[i64],
     reports: &mut [Told],
@@ -32,6 +33,7 @@ pub extern "C" fn r2u2_row_many(
 ) -> u32
     ensures takes { result ≡ DONE → TakesMany (style_of runs) numbers.now batch.new
         reports.old reports.new it.old.handle.value it.new.handle.value }
+    ensures begun { result ≡ DONE → (numbers.now ≡ []) ⊎ (0 < batch.new.rows) }
     ensures not_open { (result ≡ NOT_OPEN) ↔ (it.old.handle.value ≡ None) }
     ensures no_room { (result ≡ NO_ROOM)
         ↔ (length reports.old < open_most_reports it.old.handle.value) }
@@ -48,19 +50,18 @@ pub extern "C" fn r2u2_row_many(
     if (reports.len() as u64) < most {
         return NO_ROOM;
     }
-    match it.handle.take(alloc) {
+    match it.handle.take(free) {
         None => NOT_OPEN,
-        Some(mut monitor) => {
-            let taken = take_batch(&mut monitor, size, most, runs, numbers, reports, batch);
-            it.rows = monitor.rows_taken();
-            it.handle.put(monitor);
+        Some(mut held) => {
+            let taken = take_batch(held.get_mut(), size, most, runs, numbers, reports, batch);
+            it.rows = held.get().rows_taken();
+            it.handle.put(held);
             tell_taken(taken, why)
         }
     }
 }
 
-/// Takes rows as `take_rows` does, and says how many rows and reports there were. It is a fault where the first row isn't
-/// taken.
+/// Takes rows as `take_rows` does, and says how many rows and reports there were. Fails if the first row is not taken.
 fn take_batch(
     monitor: &mut Monitor,
     size: usize,
@@ -74,6 +75,7 @@ fn take_batch(
     requires room { most ≤ length reports.old }
     ensures takes { IfOk result (λ _. TakesRows (style_of runs) size most numbers.now batch.new
         reports.old reports.new monitor.old monitor.new) }
+    ensures begun { OnOk result ((numbers.now ≡ []) ⊎ (0 < batch.new.rows)) }
     ensures cause { IfErr result (λ fault. IsRowCause fault monitor.old (take size numbers.now)) }
     ensures same { OnErr result (monitor.new ≡ monitor.old) }
     ensures unwritten { OnErr result ((reports.new ≡ reports.old) × (batch.new ≡ batch.old)) }
@@ -102,6 +104,8 @@ fn take_rows(
     ensures cause { IfErr result.1 (λ fault. IsRowCause fault monitor.new
         (take size (drop (result.0.rows * size) numbers.now))) }
     ensures none { result.0.rows ≡ 0 → result.0.reports ≡ 0 }
+    ensures begun { OnOk result.1 ((numbers.now ≡ []) ⊎ (0 < result.0.rows)
+        ⊎ (length reports.old < most)) }
 {
     let mut batch = Batch {
         rows: 0,

@@ -18,7 +18,7 @@ use Rattle.mltl_base.specs.Reports.{IsRising, Output, formula, reports, reports_
 use Rattle.mltl_base.proofs.Telling.{reports_push, reports_rise}
 use Rattle.r2u2_monitor.specs.declared.state.State.{State}
 use Rattle.r2u2_monitor.specs.Monitoring.{IsDrained, Stands, TakesRow, open_in, program_of}
-use Rattle.r2u2_cli.specs.declared.tally.Tally.{Tally}
+use Rattle.r2u2_cli.specs.declared.demo.tally.Tally.{Tally}
 use Rattle.r2u2_cli.specs.Tallies.{AreCounted, AreTallies, tallied, count_of, none}
 
 nil_plus : (n : ℕ) → 0 + n ≡ n

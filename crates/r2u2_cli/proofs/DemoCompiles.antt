@@ -15,7 +15,7 @@ use Rattle.c2po_types.specs.Outputs.{outputs_of}
 use Rattle.r2u2_monitor.specs.Header.{columns_in_order}
 use Rattle.c2po_compile.specs.declared.fault.CompileFault.{CompileFault}
 use Rattle.c2po_compile.specs.declared.fault.CompileFault.TheVariants.{Memory}
-use Rattle.c2po_compile.specs.Compiled.{columns_by, image_of_text, outputs_in, signals_in}
+use Rattle.c2po_compile.specs.Compiled.{columns_by, compile_text, outputs_in, signals_in}
 use Rattle.c2po_compile.specs.Front.{first_refusal, items_in}
 use Rattle.c2po_compile.specs.Image.{image, over_columns}
 use Rattle.c2po_compile.specs.Limits.{limit_refusal}
@@ -59,7 +59,7 @@ columns_are = ap (λ signals. columns_by signals None) signals_are
 abbrev pub demo_program : Program
 demo_program = image demo_columns demo_signals demo_outputs
 
-pub compiles : image_of_text demo_text None ≡ Ok demo_program
+pub compiles : compile_text demo_text None ≡ Ok demo_program
 compiles =
     compiled demo_text None demo_columns demo_program not_refused columns_are (ap (λ outs. limit_refusal (over_columns demo_columns outs)) outputs_are ∙ within_limits)
     (sym (ap₂ (image demo_columns) signals_are outputs_are))
@@ -68,5 +68,5 @@ both : (found : Result Program CompileFault) (p : Program) (fault : CompileFault
 both found p fault h e = cc
 
 -- no fault but want of memory
-pub never_refused : (fault : CompileFault) → (fault ≢ Memory → image_of_text demo_text None ≡ Err fault) → fault ≢ Memory → ⊥
-never_refused fault h other = both (image_of_text demo_text None) demo_program fault compiles (h other)
+pub never_refused : (fault : CompileFault) → (fault ≢ Memory → compile_text demo_text None ≡ Err fault) → fault ≢ Memory → ⊥
+never_refused fault h other = both (compile_text demo_text None) demo_program fault compiles (h other)

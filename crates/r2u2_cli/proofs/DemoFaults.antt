@@ -3,8 +3,8 @@
 use Rattle.std.proofs.Common.{◌≡◌, ◌∙◌, refl, sym}
 use Rattle.std.specs.Prelude.{None}
 use Rattle.mltl_base.specs.Ranges.{range}
-use Rattle.c2po_nodes.specs.Faults.{formula_fault}
-use Rattle.c2po_nodes.specs.Tenses.{has_past, has_future}
+use Rattle.c2po_ast.specs.Faults.{formula_fault}
+use Rattle.c2po_ast.specs.Tenses.{has_past, has_future}
 use Rattle.c2po_types.specs.Checking.{fault_of}
 use Rattle.c2po_types.specs.FirstFault.{first_fault}
 use Rattle.c2po_types.specs.Stepwise.{checked}

@@ -13,19 +13,19 @@ use Rattle.mltl_base.specs.Reports.{Output, reports}
 use Rattle.mltl_base.specs.Subformulas.{Asked}
 use Rattle.mltl_base.proofs.Telling.{told_words, reports_rise}
 use Rattle.mltl_base.proofs.Words.{word_settled, word_known}
-use Rattle.obs_files.specs.Layout.{IsEncodable, spelling}
+use Rattle.obs_binary.specs.Layout.{IsEncodable, spelling}
 use Rattle.obs_verify.specs.Bound.{bound}
 use Rattle.obs_verify.specs.WellFormed.{IsWellFormed}
-use Rattle.obs_files.specs.declared.fault.FileFault.{FileFault}
-use Rattle.obs_files.specs.Faults.{opened}
-use Rattle.obs_files.proofs.Spelled.{opened_spelled}
-use Rattle.trace_feed.specs.declared.header_fault.HeaderFault.{HeaderFault}
-use Rattle.trace_feed.specs.declared.header_fault.HeaderFault.TheVariants.{NoHeader}
-use Rattle.trace_feed.specs.Header.{begins_header, bound_over, columns_of, header_meaning, names_of, of_width}
-use Rattle.trace_feed.proofs.ColumnLaws.{width_found}
+use Rattle.obs_binary.specs.declared.file_fault.FileFault.{FileFault}
+use Rattle.obs_binary.specs.Faults.{opened}
+use Rattle.obs_binary.proofs.Spelled.{opened_spelled}
+use Rattle.trace_columns.specs.declared.header_fault.HeaderFault.{HeaderFault}
+use Rattle.trace_columns.specs.declared.header_fault.HeaderFault.TheVariants.{NoHeader}
+use Rattle.trace_columns.specs.Header.{begins_header, bound_over, columns_of, header_meaning, names_of, of_width}
+use Rattle.trace_columns.proofs.ColumnLaws.{width_found}
 use Rattle.c2po_compile.specs.Image.{image, plain_outputs}
-use Rattle.c2po_compile.specs.ImageFiles.{IsFirstImageFile, IsImageFile, first_image_in, image_in, moved_image, stored_columns}
-use Rattle.c2po_compile.specs.Simplified.{IsSimpleImageFile, TellsSettled, simple_image_in, smaller_outputs}
+use Rattle.c2po_compile.specs.ImageFiles.{IsFirstImageFile, IsImageFile, compile_first_version, compile_over, compile_and_move, stored_columns}
+use Rattle.c2po_compile.specs.Simplified.{IsSimpleImageFile, TellsSettled, compile_simplified_over, smaller_outputs}
 use Rattle.c2po_compile.specs.Compiled.{outputs_in, signals_in}
 use Rattle.c2po_compile.proofs.MovedImages.{bound_stored, image_called, image_reports, layout_of, moved_called, moved_reports, stored_names, stored_places}
 use Rattle.c2po_compile.proofs.SimpleTelling.{moved_simple_called, moved_told, simple_image_called, simple_image_told}
@@ -147,15 +147,30 @@ module _ (signals : List Signal) (outs : List Asked) (own : Columns) (one_each :
       moves line at.new program (ap (λ names. header_meaning names line) (sym (image_named signals outs own one_each)) ∙ at.is) at.moved
 
 module _ (style : Style) (text : List ℕ) (own : Columns) (rows : List Row) where
+  -- the names and the reports of a text's outputs
+  abbrev ReportsSo : Columns → Program → Type 0
+  ReportsSo columns p = (output_names p ≡ map (λ (o : Asked). o.name) (outputs_in text)) × (reports style (outputs p) rows ≡ reports style (plain_outputs columns (outputs_in text)) rows)
+
+  image_over : (file : List ℕ) (header : Option (List ℕ)) (program : Program) → program_by kinds.Program file header ≡ Ok program → IsImageFile text own file
+      → (columns_under own (signals_in text) header ≡ Ok (stored_columns program)) × ReportsSo (stored_columns program) program
+  image_over file header program runs is =
+      let found = spelled_bound (compile_over text own) program file header is.fits is.bytes runs in
+      image_runs (signals_in text) (outputs_in text) own is.serve.one_each ReportsSo
+      (image_called text own, image_reports style text own rows is.faultless)
+      (λ new so_many. (
+        moved_called text own new,
+        moved_reports style text own new rows
+            (record { faultless = is.faultless; serve = is.serve; layout = layout_of (compile_over text own) is.fits.layout; well_formed = found.0; one_each = so_many }),
+      ))
+      header program found.1
+
+  pub image_reported : (file : List ℕ) (header : Option (List ℕ)) (program : Program) → program_by kinds.Program file header ≡ Ok program → IsImageFile text own file → ReportsSo (stored_columns program) program
+  image_reported file header program runs is = (image_over file header program runs is).1
+
   pub image_told : (file : List ℕ) (header : Option (List ℕ)) (program : Program) → program_by kinds.Program file header ≡ Ok program → IsImageFile text own file → TellsImage style text own header program rows
   image_told file header program runs is =
-      let found = spelled_bound (image_in text own) program file header is.fits is.bytes runs in
-      let over = image_runs (signals_in text) (outputs_in text) own is.serve.one_each (λ columns p. TellsText style text columns p rows)
-      (tells_text style text own (image_in text own) rows (image_called text own) (image_reports style text own rows is.faultless))
-      (λ new so_many. tells_text style text new (moved_image text own new) rows (moved_called text own new)
-      (moved_reports style text own new rows (record { faultless = is.faultless; serve = is.serve; layout = layout_of (image_in text own) is.fits.layout; well_formed = found.0; one_each = so_many })))
-      header program found.1 in
-      record { placed = over.0; told = over.1 }
+      let over = image_over file header program runs is in
+      record { placed = over.0; told = tells_text style text (stored_columns program) program rows over.1.0 over.1.1 }
 
   -- the names of a text's outputs, and words that are settled for them
   abbrev TellsSo : Columns → Program → Type 0
@@ -163,34 +178,34 @@ module _ (style : Style) (text : List ℕ) (own : Columns) (rows : List Row) whe
 
   pub simple_told : (file : List ℕ) (header : Option (List ℕ)) (program : Program) → program_by kinds.Program file header ≡ Ok program → IsSimpleImageFile text own file → TellsSimple style text own header program rows
   simple_told file header program runs is =
-      let found = spelled_bound (simple_image_in text own) program file header is.fits is.bytes runs in
+      let found = spelled_bound (compile_simplified_over text own) program file header is.fits is.bytes runs in
       let over = image_runs (signals_in text) (smaller_outputs own (outputs_in text)) own is.serve.one_each TellsSo
       (simple_image_called text own, λ k o at. simple_image_told style text own rows k o is.faultless at)
       (λ new so_many. (
         moved_simple_called text own new,
         λ k o at. moved_told style text own new rows k o
-            (record { faultless = is.faultless; serve = is.serve; layout = layout_of (simple_image_in text own) is.fits.layout; well_formed = found.0; one_each = so_many }) at,
+            (record { faultless = is.faultless; serve = is.serve; layout = layout_of (compile_simplified_over text own) is.fits.layout; well_formed = found.0; one_each = so_many }) at,
       ))
       header program found.1 in
       record { placed = over.0; names = over.1.0; told = over.1.1 }
 
   -- a program of version 1 stays as it is
-  first_stays : (header : Option (List ℕ)) → bound_under header (first_image_in text own) ≡ Ok (first_image_in text own)
+  first_stays : (header : Option (List ℕ)) → bound_under header (compile_first_version text own) ≡ Ok (compile_first_version text own)
   first_stays None = refl
   first_stays (Some line) = refl
 
   pub first_told : (file : List ℕ) (header : Option (List ℕ)) (program : Program) → program_by kinds.Program file header ≡ Ok program → IsFirstImageFile text own file → TellsText style text own program rows
   first_told file header program runs is =
-      let found = spelled_bound (first_image_in text own) program file header is.fits is.bytes runs in
-      let same : first_image_in text own ≡ program = (let both = sym (first_stays header) ∙ found.1 in cc) in
+      let found = spelled_bound (compile_first_version text own) program file header is.fits is.bytes runs in
+      let same : compile_first_version text own ≡ program = (let both = sym (first_stays header) ∙ found.1 in cc) in
       subst (λ p. TellsText style text own p rows) same
-      (tells_text style text own (first_image_in text own) rows (image_called text own) (image_reports style text own rows is.faultless))
+      (tells_text style text own (compile_first_version text own) rows (image_called text own) (image_reports style text own rows is.faultless))
 
 -- a program file tells what it unfolds to, and the text whose image it is
 pub program_told : (style : Style) (file : List ℕ) (header : Option (List ℕ)) (program : Program) (rows : List Row) → program_by kinds.Program file header ≡ Ok program → TellsProgram style file header program rows
 program_told style file header program rows runs = record {
   unfolded = record { lines_are = refl; settled = are_settled style (outputs program) rows };
   image = λ text own is. image_told style text own rows file header program runs is;
-  simple_image = λ text own is. simple_told style text own rows file header program runs is;
+  simplify_over = λ text own is. simple_told style text own rows file header program runs is;
   first_image = λ text own is. first_told style text own rows file header program runs is;
 }

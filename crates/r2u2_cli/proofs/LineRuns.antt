@@ -16,7 +16,7 @@ use Rattle.tool_io.proofs.Prompting.{PromptBy, PromptBy-append, PromptBy-from, P
 use Rattle.tool_words.specs.declared.file_kind.FileKind.{FileKind}
 use Rattle.tool_words.specs.R2u2Words.{RunAsked}
 use Rattle.r2u2_monitor.specs.declared.state.State.{State}
-use Rattle.trace_feed.specs.Header.{begins_header}
+use Rattle.trace_columns.specs.Header.{begins_header}
 use Rattle.trace_feed.specs.declared.trace_why.TraceWhy.TheVariants.{LongLine}
 use Rattle.r2u2_watch.specs.declared.status.Watched as watched
 use Rattle.r2u2_watch.specs.Trace.{TraceRows, stamped_rows, trace_rows, due}

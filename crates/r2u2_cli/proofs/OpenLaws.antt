@@ -6,10 +6,10 @@ use Rattle.mltl_base.specs.declared.program.Program.{Program}
 use Rattle.c2po_ast.specs.ItemShape.{ItemShape}
 use Rattle.c2po_types.specs.Signals.{signals_of}
 use Rattle.c2po_types.specs.Outputs.{outputs_of}
-use Rattle.obs_files.specs.declared.fault.FileFault.{FileFault}
-use Rattle.obs_files.specs.declared.fault.FileFault.TheVariants as file
-use Rattle.obs_files.specs.Faults.{ReturnsOpened, opened}
-use Rattle.trace_feed.specs.Header.{bound_to}
+use Rattle.obs_binary.specs.declared.file_fault.FileFault.{FileFault}
+use Rattle.obs_binary.specs.declared.file_fault.FileFault.TheVariants as file
+use Rattle.obs_binary.specs.Faults.{ReturnsOpened, opened}
+use Rattle.trace_columns.specs.Header.{bound_to}
 use Rattle.c2po_compile.specs.declared.fault.CompileFault.{CompileFault}
 use Rattle.c2po_compile.specs.declared.fault.CompileFault.TheVariants as compile
 use Rattle.c2po_compile.specs.Refusals.{header_refusal, IsFirstRefusal}

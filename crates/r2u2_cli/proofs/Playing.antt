@@ -10,8 +10,8 @@ use Rattle.mltl_base.specs.Programs.{IsFit, outputs}
 use Rattle.mltl_base.specs.Reports.{reports}
 use Rattle.r2u2_monitor.specs.declared.state.State.{State}
 use Rattle.r2u2_monitor.specs.Monitoring.{IsDrained, Stands, TakesRow, program_of, taken_by}
-use Rattle.c2po_compile.specs.Compiled.{image_of_text}
-use Rattle.r2u2_cli.specs.declared.tally.Tally.{Tally}
+use Rattle.c2po_compile.specs.Compiled.{compile_text}
+use Rattle.r2u2_cli.specs.declared.demo.tally.Tally.{Tally}
 use Rattle.r2u2_cli.specs.DemoRow.{demo_row}
 use Rattle.r2u2_cli.specs.Played.{Played}
 use Rattle.r2u2_cli.specs.Summary.{demo_rows}
@@ -26,7 +26,7 @@ all_none tallies n t is e k within =
     ap (λ (ts : List Tally). slice_index_or ts k none) is ∙ get_or-replicate n k t none (omega (arith, within, ap length is, length-replicate n t)) ∙ e
 
 -- before the first row
-pub played_none : (tallies : List Tally) (monitor : State) (seed : ℕ) → image_of_text demo_text None ≡ Ok (program_of monitor) → taken_by monitor ≡ 0
+pub played_none : (tallies : List Tally) (monitor : State) (seed : ℕ) → compile_text demo_text None ≡ Ok (program_of monitor) → taken_by monitor ≡ 0
     → Stands monitor [] → IsDrained monitor → length tallies ≡ length (program_of monitor).outs
     → ((k : ℕ) → k < length tallies → slice_index_or tallies k none ≡ none) → Played tallies monitor seed 0
 played_none tallies monitor seed program taken stands drained enough all = record {

@@ -6,19 +6,19 @@ use Rattle.mltl_base.specs.declared.program.Columns.{Columns}
 use Rattle.mltl_base.specs.declared.program.Program.{Program}
 use Rattle.mltl_base.specs.Subformulas.{Asked}
 use Rattle.mltl_base.specs.declared.signal.Signal.{Signal}
-use Rattle.obs_files.specs.declared.fault.FileFault.{FileFault}
-use Rattle.obs_files.specs.declared.fault.FileFault.TheVariants as file
-use Rattle.obs_files.specs.Faults.{opened}
-use Rattle.trace_feed.specs.declared.header_fault.HeaderFault.{HeaderFault}
-use Rattle.trace_feed.specs.declared.header_fault.HeaderFault.TheVariants as header_fault
-use Rattle.trace_feed.specs.Header.{begins_header, times, first_place, column_of, columns_of, in_front, of_width, names_of, header_meaning, bound_over, bound_to}
+use Rattle.obs_binary.specs.declared.file_fault.FileFault.{FileFault}
+use Rattle.obs_binary.specs.declared.file_fault.FileFault.TheVariants as file
+use Rattle.obs_binary.specs.Faults.{opened}
+use Rattle.trace_columns.specs.declared.header_fault.HeaderFault.{HeaderFault}
+use Rattle.trace_columns.specs.declared.header_fault.HeaderFault.TheVariants as header_fault
+use Rattle.trace_columns.specs.Header.{begins_header, times, first_place, column_of, columns_of, in_front, of_width, names_of, header_meaning, bound_over, bound_to}
 use Rattle.c2po_compile.specs.declared.fault.CompileFault.{CompileFault}
 use Rattle.c2po_compile.specs.declared.fault.CompileFault.TheVariants as compile
 use Rattle.c2po_compile.specs.Refusals.{unless_refused}
 use Rattle.c2po_compile.specs.Front.{first_refusal}
 use Rattle.c2po_compile.specs.Limits.{limit_refusal}
 use Rattle.c2po_compile.specs.Image.{over_columns, image}
-use Rattle.c2po_compile.specs.Compiled.{columns_by, signals_in, outputs_in, image_under, image_of_text}
+use Rattle.c2po_compile.specs.Compiled.{columns_by, signals_in, outputs_in, compile_under_header, compile_text}
 use Rattle.c2po_compile.proofs.RefusalLaws as text
 use Rattle.c2po_compile.proofs.RefusalLaws.{IsHeaderless, first_headerless, limit_headerless}
 use Rattle.tool_words.specs.declared.file_kind.FileKind.{FileKind}
@@ -104,15 +104,15 @@ unless_speaks : (refusal : Option CompileFault) (found : Result Program CompileF
 unless_speaks None found a b = b
 unless_speaks (Some fault) found a b = headed_status fault a
 
-under_speaks : (signals : List Signal) (outs : List Asked) (found : Result Columns HeaderFault) → Names found → HasStatus (image_under signals outs found)
+under_speaks : (signals : List Signal) (outs : List Asked) (found : Result Columns HeaderFault) → Names found → HasStatus (compile_under_header signals outs found)
 under_speaks signals outs (Ok columns) names = unless_speaks (limit_refusal (over_columns columns outs)) (Ok (image columns signals outs)) (limit_headerless (over_columns columns outs)) tt
 under_speaks signals outs (Err header_fault.NoHeader) names = absurd names
 under_speaks signals outs (Err fault) names = tt
 
-text_speaks : (bytes : List ℕ) (header : Option (List ℕ)) → IsMarked header → HasStatus (image_of_text bytes header)
-unfolding image_of_text
+text_speaks : (bytes : List ℕ) (header : Option (List ℕ)) → IsMarked header → HasStatus (compile_text bytes header)
+unfolding compile_text
 text_speaks bytes header marked =
-    unless_speaks (first_refusal bytes) (image_under (signals_in bytes) (outputs_in bytes) (columns_by (signals_in bytes) header)) (first_headerless bytes)
+    unless_speaks (first_refusal bytes) (compile_under_header (signals_in bytes) (outputs_in bytes) (columns_by (signals_in bytes) header)) (first_headerless bytes)
     (under_speaks (signals_in bytes) (outputs_in bytes) (columns_by (signals_in bytes) header) (by_names (signals_in bytes) header marked))
 
 -- a program under a header

@@ -16,7 +16,7 @@ use Rattle.mltl_base.specs.Programs.{FitsRow, IsFit, outputs}
 use Rattle.mltl_base.specs.Reports.{reports}
 use Rattle.mltl_base.specs.Subformulas.{add_expressions, add_terms, listed as is_listed, place_of, same_atom, same_expression, same_term}
 use Rattle.c2po_compile.specs.declared.fault.CompileFault.{CompileFault}
-use Rattle.c2po_compile.specs.Compiled.{image_of_text}
+use Rattle.c2po_compile.specs.Compiled.{compile_text}
 use Rattle.c2po_compile.specs.Image.{image}
 use Rattle.c2po_compile.proofs.TellingLaws.{text_reports}
 use Rattle.r2u2_cli.specs.DemoRow.{bit, demo_row, demo_value}
@@ -30,8 +30,8 @@ next_row seed k = map-range_with_len_more (demo_row seed) 0 k k (omega arith)
 same_program : (found : Result Program CompileFault) (p q : Program) → found ≡ Ok p → found ≡ Ok q → p ≡ q
 same_program found p q h e = cc
 
-pub program_is : (p : Program) → image_of_text demo_text None ≡ Ok p → p ≡ demo_program
-program_is p h = same_program (image_of_text demo_text None) p demo_program h compiles
+pub program_is : (p : Program) → compile_text demo_text None ≡ Ok p → p ≡ demo_program
+program_is p h = same_program (compile_text demo_text None) p demo_program h compiles
 
 abbrev demo_bz : List BzOp
 demo_bz = bz.IsTrue 0 ∷ bz.IsTrue 1 ∷ bz.Column 2 ∷ bz.Const (pos 0) ∷ bz.Lt 2 3 ∷ []
@@ -69,14 +69,14 @@ fits_program p seed k width is = record {
   kinds = subst (All (FitsRow (demo_row seed k))) (sym is) (reads_fit (demo_row seed k) (bit_fits (demo_value seed k % 3 == 0)) (bit_fits (nat_lt (demo_value seed k % 5) 2)) (number_fits (demo_value seed k) (value_low seed k)));
 }
 
-pub row_fits : (p : Program) (seed k : ℕ) → image_of_text demo_text None ≡ Ok p → IsFit p (demo_row seed k)
+pub row_fits : (p : Program) (seed k : ℕ) → compile_text demo_text None ≡ Ok p → IsFit p (demo_row seed k)
 row_fits p seed k h = subst (λ (q : Program). IsFit q (demo_row seed k)) (sym (program_is p h)) (fits_program demo_program seed k width_found bz_found)
 
 listed_found : map listed_out demo_program.outs ≡ map summary_entry demo_outputs
 unfolding image
 listed_found = refl
 
-pub summary_is : (p : Program) (seed rows : ℕ) → image_of_text demo_text None ≡ Ok p
+pub summary_is : (p : Program) (seed rows : ℕ) → compile_text demo_text None ≡ Ok p
     → summary_of rows (map listed_out p.outs) (reports Each (outputs p) (demo_rows seed rows)) ≡ demo_summary seed rows
 unfolding demo_summary
 summary_is p seed rows h =

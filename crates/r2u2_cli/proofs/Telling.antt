@@ -7,13 +7,13 @@ use Rattle.mltl_base.specs.declared.report.Style.{Style}
 use Rattle.mltl_base.specs.declared.signal.Signal.{Signal}
 use Rattle.mltl_base.specs.Atoms.{Row}
 use Rattle.mltl_base.specs.Subformulas.{Asked}
-use Rattle.trace_feed.specs.declared.header_fault.HeaderFault.{HeaderFault}
+use Rattle.trace_columns.specs.declared.header_fault.HeaderFault.{HeaderFault}
 use Rattle.tool_words.specs.declared.file_kind.FileKind.{FileKind}
 use Rattle.tool_words.specs.declared.file_kind.FileKind.TheVariants as kinds
 use Rattle.tool_words.specs.R2u2Words.{RunAsked}
 use Rattle.c2po_compile.specs.declared.fault.CompileFault.{CompileFault}
 use Rattle.c2po_compile.specs.Front.{first_refusal}
-use Rattle.c2po_compile.specs.Compiled.{columns_by, signals_in, outputs_in, image_under, image_of_text}
+use Rattle.c2po_compile.specs.Compiled.{columns_by, signals_in, outputs_in, compile_under_header, compile_text}
 use Rattle.c2po_compile.proofs.TellingLaws.{not_refused, text_reports, text_names}
 use Rattle.tool_words.specs.declared.status.Status.{Status}
 use Rattle.tool_words.specs.FirstLine.{begins_long}
@@ -38,24 +38,24 @@ over_found kind bytes raws program is =
     (not_refused (file_refusal kind bytes) (unless_long (begins_long raws) (program_by kind bytes (header_in raws))) program is).1
 
 -- a text has a program only where its signals have columns
-columns_under : (signals : List Signal) (outs : List Asked) (found : Result Columns HeaderFault) (program : Program) → image_under signals outs found ≡ Ok program → (columns : Columns) × (found ≡ Ok columns)
+columns_under : (signals : List Signal) (outs : List Asked) (found : Result Columns HeaderFault) (program : Program) → compile_under_header signals outs found ≡ Ok program → (columns : Columns) × (found ≡ Ok columns)
 columns_under signals outs (Ok columns) program is = (columns, refl)
 columns_under signals outs (Err fault) program is = absurd (cc)
 
-columns_found : (bytes : List ℕ) (header : Option (List ℕ)) (program : Program) → image_of_text bytes header ≡ Ok program → (columns : Columns) × (columns_by (signals_in bytes) header ≡ Ok columns)
-unfolding image_of_text
+columns_found : (bytes : List ℕ) (header : Option (List ℕ)) (program : Program) → compile_text bytes header ≡ Ok program → (columns : Columns) × (columns_by (signals_in bytes) header ≡ Ok columns)
+unfolding compile_text
 columns_found bytes header program is =
     columns_under (signals_in bytes) (outputs_in bytes) (columns_by (signals_in bytes) header) program
-    (not_refused (first_refusal bytes) (image_under (signals_in bytes) (outputs_in bytes) (columns_by (signals_in bytes) header)) program is).1
+    (not_refused (first_refusal bytes) (compile_under_header (signals_in bytes) (outputs_in bytes) (columns_by (signals_in bytes) header)) program is).1
 
-tells_source : (style : Style) (bytes : List ℕ) (header : Option (List ℕ)) (program : Program) (rows : List Row) → image_of_text bytes header ≡ Ok program → TellsSource style bytes header program rows
+tells_source : (style : Style) (bytes : List ℕ) (header : Option (List ℕ)) (program : Program) (rows : List Row) → compile_text bytes header ≡ Ok program → TellsSource style bytes header program rows
 tells_source style bytes header program rows is =
     let found = columns_found bytes header program is in
     (found.0, found.1, tells_text style bytes found.0 program rows (text_names bytes header found.0 program is found.1) (text_reports style bytes header found.0 program rows is found.1))
 
 tells_file : (kind : FileKind) (style : Style) (bytes : List ℕ) (header : Option (List ℕ)) (program : Program) (rows : List Row) → program_by kind bytes header ≡ Ok program → TellsFile kind style bytes header program rows
 unfolding program_by
-tells_file kinds.Spec style bytes header program rows is = tells_source style bytes header program rows (status_found (image_of_text bytes header) program is)
+tells_file kinds.Spec style bytes header program rows is = tells_source style bytes header program rows (status_found (compile_text bytes header) program is)
 tells_file kinds.Program style bytes header program rows is = program_told style bytes header program rows is
 
 pub settled_by : (asked : RunAsked) (bytes : List ℕ) (raws : List (List ℕ)) (ended : Bool) (trace : List ℕ) → IsSettledBy asked bytes (header_in raws) (program_over asked.kind bytes raws) ended trace

@@ -5,7 +5,7 @@ use Rattle.tool_io.specs.declared.host.Place as place
 use Rattle.tool_io.specs.Log.{Event, IsProperFront, Writes, WritesFront}
 use Rattle.r2u2_monitor.specs.declared.state.State.{State}
 use Rattle.r2u2_monitor.specs.Monitoring.{IsDrained, Stands, program_of}
-use Rattle.c2po_compile.specs.Compiled.{image_of_text}
+use Rattle.c2po_compile.specs.Compiled.{compile_text}
 use Rattle.r2u2_cli.specs.Summary.{demo_rows, demo_summary}
 use Rattle.r2u2_cli.specs.Text.{demo_text}
 use Rattle.tool_words.specs.declared.status.Status as status
@@ -15,7 +15,7 @@ use Rattle.r2u2_cli.specs.Outcome.{Silent}
 pub record KeepsDemo (seed rows : ℕ) (kept : Option State) : Type 0 where
   pub monitor : State
   pub is : kept ≡ Some monitor
-  pub program : image_of_text demo_text None ≡ Ok (program_of monitor)
+  pub program : compile_text demo_text None ≡ Ok (program_of monitor)
   pub stands : Stands monitor (demo_rows seed rows)
   pub drained : IsDrained monitor
 

@@ -8,7 +8,7 @@ use Rattle.mltl_base.specs.declared.signal.Signal.{Signal}
 use Rattle.mltl_base.specs.Atoms.{Row}
 use Rattle.mltl_base.specs.Programs.{outputs, output_names}
 use Rattle.mltl_base.specs.Reports.{Output}
-use Rattle.trace_feed.specs.declared.header_fault.HeaderFault.{HeaderFault}
+use Rattle.trace_columns.specs.declared.header_fault.HeaderFault.{HeaderFault}
 use Rattle.tool_words.specs.declared.file_kind.FileKind.{FileKind}
 use Rattle.tool_words.specs.declared.file_kind.FileKind.TheVariants as kinds
 use Rattle.tool_words.specs.R2u2Words.{RunAsked}
@@ -54,7 +54,7 @@ pub record TellsProgram (style : Style) (file : List ℕ) (header : Option (List
   pub unfolded : TellsOf style program (output_names program) (outputs program) rows
   pub image : (text : List ℕ) (own : Columns) → IsImageFile text own file
       → TellsImage style text own header program rows
-  pub simple_image : (text : List ℕ) (own : Columns) → IsSimpleImageFile text own file
+  pub simplify_over : (text : List ℕ) (own : Columns) → IsSimpleImageFile text own file
       → TellsSimple style text own header program rows
   pub first_image : (text : List ℕ) (own : Columns) → IsFirstImageFile text own file
       → TellsText style text own program rows

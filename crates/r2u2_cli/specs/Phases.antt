@@ -9,12 +9,12 @@ use Rattle.tool_io.specs.declared.host.Place as place
 use Rattle.tool_io.specs.Log.{Event, same_place, given, names_of, IsFront, Reads, meets_end, Prompt}
 use Rattle.tool_io.specs.Cutting.{Cutting, HasNoNewline, IsRow, OnlyWhereNeeded, line_text, next_number}
 use Rattle.c2po_ast.specs.ItemShape.{spec_shape}
-use Rattle.obs_files.specs.Faults.{opened}
+use Rattle.obs_binary.specs.Faults.{opened}
 use Rattle.c2po_compile.specs.Front.{items_in, first_refusal}
 use Rattle.tool_words.specs.declared.file_kind.FileKind.{FileKind}
 use Rattle.tool_words.specs.declared.file_kind.FileKind.TheVariants as kinds
 use Rattle.tool_words.specs.R2u2Words.{RunAsked}
-use Rattle.trace_feed.specs.Header.{begins_header}
+use Rattle.trace_columns.specs.Header.{begins_header}
 use Rattle.r2u2_monitor.specs.declared.state.State.{State}
 use Rattle.trace_feed.specs.declared.trace_why.TraceWhy.TheVariants.{LongLine}
 use Rattle.r2u2_watch.specs.declared.status.Watched as watched

@@ -3,15 +3,15 @@
 use Rattle.std.specs.Prelude.{◌≡◌, ℕ, None, Ok, List}
 use Rattle.r2u2_monitor.specs.declared.state.State.{State}
 use Rattle.r2u2_monitor.specs.Monitoring.{IsDrained, Stands, program_of, taken_by}
-use Rattle.c2po_compile.specs.Compiled.{image_of_text}
-use Rattle.r2u2_cli.specs.declared.tally.Tally.{Tally}
+use Rattle.c2po_compile.specs.Compiled.{compile_text}
+use Rattle.r2u2_cli.specs.declared.demo.tally.Tally.{Tally}
 use Rattle.r2u2_cli.specs.Summary.{demo_rows}
 use Rattle.r2u2_cli.specs.Tallies.{AreCounted}
 use Rattle.r2u2_cli.specs.Text.{demo_text}
 
 -- it has taken this many rows of the demo, and all its reports were returned and are counted
 pub record Played (tallies : List Tally) (monitor : State) (seed rows : ℕ) : Type 0 where
-  pub program : image_of_text demo_text None ≡ Ok (program_of monitor)
+  pub program : compile_text demo_text None ≡ Ok (program_of monitor)
   pub taken : taken_by monitor ≡ rows
   pub stands : Stands monitor (demo_rows seed rows)
   pub drained : IsDrained monitor

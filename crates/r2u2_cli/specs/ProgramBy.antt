@@ -5,16 +5,16 @@ use Rattle.std.specs.Prelude.{ℕ, ◌==◌, Bool, true, false, if◌then◌else
 use Rattle.std.specs.Prelude.{Err, List, [], ◌∷◌}
 use Rattle.mltl_base.specs.declared.program.Program.{Program}
 use Rattle.tool_io.specs.Cutting.{line_text}
-use Rattle.obs_files.specs.declared.fault.FileFault.{FileFault}
-use Rattle.obs_files.specs.Faults.{opened}
-use Rattle.trace_feed.specs.declared.header_fault.HeaderFault.{HeaderFault}
-use Rattle.trace_feed.specs.Header.{begins_header, bound_to}
+use Rattle.obs_binary.specs.declared.file_fault.FileFault.{FileFault}
+use Rattle.obs_binary.specs.Faults.{opened}
+use Rattle.trace_columns.specs.declared.header_fault.HeaderFault.{HeaderFault}
+use Rattle.trace_columns.specs.Header.{begins_header, bound_to}
 use Rattle.trace_feed.specs.declared.trace_why.TraceWhy.TheVariants as trace
 use Rattle.c2po_compile.specs.declared.fault.CompileFault.{CompileFault}
 use Rattle.c2po_compile.specs.declared.fault.CompileFault.TheVariants as compile_fault
 use Rattle.c2po_compile.specs.declared.fault.HeaderWhy.TheVariants as why
 use Rattle.c2po_compile.specs.Front.{first_refusal}
-use Rattle.c2po_compile.specs.Compiled.{image_of_text}
+use Rattle.c2po_compile.specs.Compiled.{compile_text}
 use Rattle.c2po_compile.specs.Refusals.{header_refusal, unless_refused}
 use Rattle.tool_words.specs.declared.file_kind.FileKind.{FileKind}
 use Rattle.tool_words.specs.declared.file_kind.FileKind.TheVariants as kinds
@@ -58,7 +58,7 @@ opened_under header (Err fault) = Err (file_status fault)
 
 -- the program of a file under the header of a trace; or the first that refuses it
 unfoldable pub program_by : FileKind → List ℕ → Option (List ℕ) → Result Program Status
-program_by kinds.Spec file header = with_status trace_status (image_of_text file header)
+program_by kinds.Spec file header = with_status trace_status (compile_text file header)
 program_by kinds.Program file header = opened_under header (opened file)
 
 -- the header of a trace: its first line, where that begins with `#`

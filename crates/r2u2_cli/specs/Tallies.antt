@@ -10,7 +10,7 @@ use Rattle.mltl_base.specs.Programs.{outputs}
 use Rattle.mltl_base.specs.Reports.{reports, same_word}
 use Rattle.r2u2_monitor.specs.declared.state.State.{State}
 use Rattle.r2u2_monitor.specs.Monitoring.{open_in, program_of}
-use Rattle.r2u2_cli.specs.declared.tally.Tally.{Tally}
+use Rattle.r2u2_cli.specs.declared.demo.tally.Tally.{Tally}
 
 -- how many reports of output k have a word
 abbrev pub count_of : ℕ → Word → List Report → ℕ

@@ -1,9 +1,15 @@
-//! The run of the demo.
+//! The demo: requirements, rows that are made from a seed, a run over them, and its summary. It reads no file.
 
 ghost use Rattle.std.specs.Prelude.{◌≡◌, ◌≢◌, None, Some};
 ghost use Rattle.tool_io.specs.Log.{OnLog};
 ghost use Rattle.tool_words.specs.Causes.{RunCause};
 ghost use Rattle.r2u2_cli.specs.Demo.{DemoLog, SummaryLog};
+
+pub(crate) mod row;
+pub(crate) mod run;
+mod summary;
+mod tally;
+pub(crate) mod text;
 
 use crate::{Demo, run_demo};
 use r2u2_monitor::Monitor;

@@ -3,7 +3,7 @@
 ghost use Rattle.std.specs.Prelude.{◌≡◌, ◌≢◌, ◌<◌, ◌≤◌, Err, List as Seq, ℕ, None, Ok, OnOk, Option as Maybe, Some, IfErr, IfOk, length};
 ghost use Rattle.std.specs.Option.{ForSome, option_copied};
 ghost use Rattle.mltl_base.specs.declared.limits.TheConstants.{MAX_LINE_BYTES, MAX_SPEC_BYTES};
-ghost use Rattle.obs_files.specs.Faults.{opened as opened_by};
+ghost use Rattle.obs_binary.specs.Faults.{opened as opened_by};
 ghost use Rattle.tool_words.specs.Causes.{TellsNoCall};
 ghost use Rattle.tool_words.specs.Files.{file_limit};
 ghost use Rattle.r2u2_cli.specs.ProgramBy.{bound_under, file_refusal, header_status, program_by, trace_status};
@@ -11,12 +11,12 @@ ghost use Rattle.r2u2_cli.specs.Phases.{OpensFile};
 
 use c2po_compile::{CompileFault, HeaderWhy, back, columns_of, front};
 use c2po_types::TypedSpec;
-use obs_files::open;
+use obs_binary::open;
 use obs_verify::Checked;
 use r2u2_watch::TraceWhy;
 use std::alloc::Global;
 use tool_words::{FileKind, Status};
-use trace_feed::{HeaderFault, bind_to_header};
+use trace_columns::{HeaderFault, bind_to_header};
 
 /// A file that was read and isn't refused by itself.
 #[derive(Drop)]

@@ -1,6 +1,6 @@
 -- A monitor holds the bytes that its program takes.
 
-use Rattle.std.proofs.Common.{◌≡◌, [], length, arith}
+use Rattle.std.proofs.Common.{◌≡◌, Option, None, Some, [], length, refl, arith}
 use Rattle.std.proofs.lemmas.List.{length-map}
 use Rattle.mltl_base.specs.Queues.{best_delays, best_of, worst_delays, worst_of}
 use Rattle.mltl_base.specs.declared.program.Program.{Program}
@@ -12,7 +12,8 @@ use Rattle.ft_engine.specs.Standing as future
 use Rattle.pt_boxes.specs.Standing as past
 use Rattle.trace_feed.proofs.ReadingLaws.{length-readings_of}
 use Rattle.r2u2_monitor.specs.Bytes.{bytes_of, bytes_of_checked, monitor_bytes}
-use Rattle.r2u2_monitor.specs.Holders.{bytes_in_checked, bytes_in_monitor}
+use Rattle.contract_status.specs.declared.engines.Stretch.{Stretch}
+use Rattle.r2u2_monitor.specs.Holders.{bytes_in_checked, bytes_in_monitor, bytes_in_stretch}
 use Rattle.r2u2_monitor.specs.declared.monitor.Monitor.TheInside.{Inside as MonitorFields}
 use Rattle.r2u2_monitor.specs.declared.monitor.Monitor.TheView as monitor
 use Rattle.r2u2_monitor.specs.declared.state.State.{State}
@@ -33,6 +34,11 @@ holds_what_it_takes monitor sound =
 pub checked_fields : (fields : CheckedFields) → checked.invariant fields → bytes_in_checked fields ≡ bytes_of_checked (checked.view fields)
 checked_fields fields kept = rw (kept.best, kept.worst, kept.read_by) (omega arith)
 
+-- a stretch has no list
+no_list : (stretch : Option Stretch) → bytes_in_stretch stretch ≡ 0
+no_list None = refl
+no_list (Some stretch) = refl
+
 -- and so do those of a monitor
 pub monitor_fields : (fields : MonitorFields) → monitor.invariant fields → bytes_in_monitor fields ≡ bytes_of (monitor.view fields)
-monitor_fields fields kept = rw kept.readings (omega arith)
+monitor_fields fields kept = let none = no_list fields.cursor.stretch in rw (kept.readings, none) (omega arith)

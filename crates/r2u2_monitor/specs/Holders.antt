@@ -2,15 +2,18 @@
 -- type with a further field doesn't compile. The laws `fields_hold_*` say that they hold just the bytes that `Bytes`
 -- counts.
 
-use Rattle.std.specs.Prelude.{ℕ, ◌+◌, ◌*◌, length}
+use Rattle.std.specs.Prelude.{ℕ, ◌+◌, ◌*◌, Option, None, Some, length}
 use Rattle.mltl_base.specs.Room.{room}
 use Rattle.delay_sizes.specs.declared.delay_lists.Delays.{Delays}
 use Rattle.obs_verify.specs.declared.Checked.TheInside.{Inside as CheckedFields}
 use Rattle.booleanizer.specs.declared.Bz.TheInside.{Inside as BzFields}
 use Rattle.contract_status.specs.declared.Outs.TheInside.{Inside as OutsFields}
+use Rattle.contract_status.specs.declared.cursor.Cursor.{Cursor}
+use Rattle.contract_status.specs.declared.engines.Stretch.{Stretch}
 use Rattle.trace_feed.specs.declared.Readings.TheInside.{Inside as ReadingsFields}
 use Rattle.r2u2_monitor.specs.declared.bytes.TheConstants.{NUMBER_BYTES, READER_BYTES, READING_BYTES}
 use Rattle.r2u2_monitor.specs.declared.bytes.TheConstants.{SIZE_BYTES, TIME_BYTES}
+use Rattle.r2u2_monitor.specs.declared.last_row.LastRow.{LastRow}
 use Rattle.r2u2_monitor.specs.declared.monitor.Monitor.TheInside.{Inside as MonitorFields}
 use Rattle.r2u2_monitor.specs.Bytes.{bytes_of_program, bytes_of_running}
 
@@ -44,10 +47,31 @@ bytes_in_readings readings =
     let record { columns = columns } = readings in
     READING_BYTES * length columns
 
--- a monitor; the row that was taken last is for contracts alone
+-- the row that was taken last, which is for contracts alone: no list
+abbrev pub bytes_in_last_row : LastRow → ℕ
+bytes_in_last_row last =
+    let record { numbers = numbers } = last in
+    0
+
+-- a stretch, if there is one: no list
+abbrev pub bytes_in_stretch : Option Stretch → ℕ
+bytes_in_stretch None = 0
+bytes_in_stretch (Some stretch) =
+    let record { last = last; word = word } = stretch in
+    0
+
+-- where the search goes on: no list
+abbrev pub bytes_in_cursor : Cursor → ℕ
+bytes_in_cursor cursor =
+    let record { out = out; stretch = stretch } = cursor in
+    bytes_in_stretch stretch
+
+-- a monitor
 abbrev pub bytes_in_monitor : MonitorFields → ℕ
 bytes_in_monitor monitor =
     let record { running = running; last = last; read = read; readings = readings; cursor = cursor } = monitor in
     bytes_of_running running
+    + bytes_in_last_row last
     + NUMBER_BYTES * length read
     + READING_BYTES * length readings
+    + bytes_in_cursor cursor

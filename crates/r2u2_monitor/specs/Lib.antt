@@ -7,12 +7,11 @@ pub mod Bursts
 pub mod Work
 pub mod Stepping
 pub mod RowFaults
-pub mod TakingLines
 pub use Rattle.mltl_base.specs.Atoms
 pub use Rattle.mltl_base.specs.Lines
 pub use Rattle.mltl_base.specs.Programs
 pub use Rattle.mltl_base.specs.Reports
 pub use Rattle.obs_verify.specs.Bound
-pub use Rattle.trace_feed.specs.Header
+pub use Rattle.trace_columns.specs.Header
 pub use Rattle.trace_feed.specs.Readings
 pub use Rattle.trace_feed.specs.Rows

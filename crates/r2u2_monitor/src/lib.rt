@@ -18,7 +18,6 @@ mod unfit;
 
 pub use bursts::most_reports;
 pub use bytes::monitor_bytes;
-pub use contract_status::Look;
 pub use mltl_base::steps::Steps;
 pub use mltl_base::{Report, Style, Word};
 pub use monitor::Monitor;

@@ -6,11 +6,10 @@ use crate::row_fault::RowFault;
 use crate::running::Running;
 use crate::unfit::unfit_column;
 use arrayvec::ArrayVec;
-use contract_status::{Cursor, Look, line_of};
-use fixed_list::Fixed;
+use contract_status::{Cursor, line_of};
 use mltl_base::limits::MAX_MISSION;
 use mltl_base::steps::Steps;
-use mltl_base::{Report, Style};
+use mltl_base::{Fixed, Report, Style};
 use obs_verify::Checked;
 use std::alloc::{AllocError, Global};
 use std::marker::{Brand, Model};
@@ -48,7 +47,7 @@ impl Model for Monitor {
 }
 
 impl Monitor {
-    ghost use Rattle.std.specs.Prelude.{◌≡◌, ◌+◌, ◌*◌, ◌^◌, ◌<◌, ◌≤◌, ◌↔◌, List, [], IfErr, IfOk, IfSome, IsNone, IsOk, IsTrue, MatchOption, OnErr, OnOk, Some, drop, length, take};
+    ghost use Rattle.std.specs.Prelude.{◌≡◌, ◌+◌, ◌*◌, ◌^◌, ◌<◌, ◌≤◌, ◌↔◌, List, [], IfErr, IfOk, IsOk, IsTrue, MatchOption, OnErr, OnOk, drop, length, take};
     ghost use Rattle.mltl_base.specs.declared.limits.TheConstants.{MAX_MISSION, TIME_END};
     ghost use Rattle.arrayvec.specs.ArrayVec.{array_vec_len};
     ghost use Rattle.mltl_base.specs.declared.report.Style.{Style as Form};
@@ -61,7 +60,6 @@ impl Monitor {
     ghost use Rattle.r2u2_monitor.specs.Work.{row_work, running_work, taking_work, telling_work};
     ghost use Rattle.r2u2_monitor.specs.Stepping.{ReturnsMany, StepsOver};
     ghost use Rattle.trace_feed.specs.Rows.{IsMeaningOf, line_meaning};
-    ghost use Rattle.r2u2_monitor.specs.TakingLines.{TakesLine};
     ghost use Rattle.r2u2_monitor.specs.Monitoring.{KeepsKnown, ReturnsNext, IsDrained, IsSame, Stands, TakesRow, last_of, open_in, program_of, read_of, taken_by};
     ghost use Rattle.r2u2_monitor.specs.RowFaults.{IsReady, IsRowCause, IsUnfitAt};
 
@@ -222,21 +220,6 @@ impl Monitor {
         self.cursor = Cursor::start();
     }
 
-    /// Takes the row of a line, if the line is one. `Good`: its row was taken; otherwise nothing changed.
-    pub fn take_line<L: Ledger>(&mut self, line: &[u8], steps: &mut Steps<L>) -> RowAnswer
-        requires drained { IsDrained self.old }
-        requires early { taken_by self.old < MAX_MISSION }
-        ensures line { TakesLine result line.now self.old self.new }
-        ensures program { program_of self.new ≡ program_of self.old }
-        ensures counted { steps.new ≤ steps.old + running_work (program_of self.old) }
-    {
-        let answer = self.read_line(line);
-        if let RowAnswer::Good = answer {
-            self.take_read(steps);
-        }
-        answer
-    }
-
     /// Reads the row of a line, if the line is one, and keeps it aside. Nothing else changes.
     pub fn read_line(&mut self, line: &[u8]) -> RowAnswer
         ensures told { IsMeaningOf result (read_of self.new)
@@ -297,44 +280,6 @@ impl Monitor {
     {
         let mut steps = Steps::<L>::start(blank);
         self.running.next(style, &mut self.cursor, &mut steps)
-    }
-
-    /// What `next` gives where an earlier call found more than it gave. `None`, and no change, where it didn't.
-    #[inline(always)]
-    pub fn next_kept(&mut self, style: Style) -> Option<Report>
-        ensures returns { IfSome result (λ report.
-            ReturnsNext style (Some report) self.old self.new) }
-        ensures same { IsNone result → self.new ≡ self.old }
-    {
-        self.running.next_kept(style, &mut self.cursor)
-    }
-
-    /// What `next` gives where the look tells it. Else an `Err` says how to look on, and nothing changes: `next` tells in any case.
-    #[inline(always)]
-    pub fn next_at_once(&mut self, look: Look, style: Style) -> Result<Option<Report>, Look>
-        ensures returns { IfOk result (λ told. ReturnsNext style told self.old self.new) }
-        ensures same { OnErr result (self.new ≡ self.old) }
-    {
-        self.next_at_once_alone::<Brand>(look, style, Blank::new(1))
-    }
-
-    /// The same with a separate counter.
-    #[inline(always)]
-    fn next_at_once_alone<L: Ledger>(
-        &mut self,
-        look: Look,
-        style: Style,
-        blank: Blank,
-    ) -> Result<Option<Report>, Look>
-        requires name { blank.name ≡ L.name }
-        requires parts { blank.parts ≡ L.parts }
-        requires some_parts { 0 < blank.parts }
-        ensures returns { IfOk result (λ told. ReturnsNext style told self.old self.new) }
-        ensures same { OnErr result (self.new ≡ self.old) }
-    {
-        let mut steps = Steps::<L>::start(blank);
-        self.running
-            .next_at_once(look, style, &mut self.cursor, &mut steps)
     }
 
     /// Writes the next reports of the last row, in a style, to the front of a slice, as many as there is room for, and returns

@@ -3,7 +3,7 @@
 ghost use Rattle.std.specs.Prelude.{◌≡◌, length, IfOk};
 ghost use Rattle.trace_feed.specs.Readings.{readings_of};
 
-use fixed_list::Fixed;
+use mltl_base::Fixed;
 use obs_verify::Checked;
 use std::alloc::{AllocError, Global};
 use trace_feed::Readings;

@@ -6,7 +6,7 @@ ghost use Rattle.contract_status.specs.Standing.{StandFor};
 
 use crate::last_row::LastRow;
 use booleanizer::Bz;
-use contract_status::{Cursor, Look, Outs};
+use contract_status::{Cursor, Outs};
 use ft_engine::Ft;
 use mltl_base::steps::Steps;
 use mltl_base::{Report, Style};
@@ -40,7 +40,7 @@ fn engines(alloc: Global, checked: &Checked) -> Result<(Bz, Ft, Pt, Outs), Alloc
 }
 
 impl Running {
-    ghost use Rattle.std.specs.Prelude.{◌≡◌, ◌+◌, ◌*◌, ◌<◌, ◌≤◌, ◌↔◌, List, [], length, take, IfOk, IfSome, IsNone, IsTrue, OnErr, Some};
+    ghost use Rattle.std.specs.Prelude.{◌≡◌, ◌+◌, ◌*◌, ◌<◌, ◌≤◌, ◌↔◌, List, [], length, take, IfOk, IsTrue};
     ghost use Rattle.mltl_base.specs.declared.limits.TheConstants.{MAX_MISSION};
     ghost use Rattle.mltl_base.specs.declared.report.Style.{Style as Form};
     ghost use Rattle.mltl_base.specs.Atoms.{Row};
@@ -141,59 +141,6 @@ impl Running {
             &self.ft,
             &self.pt,
             self.taken,
-            steps,
-        )
-    }
-
-    /// The report of the stretch that the cursor has, in a style. `None`, and no change, where it has none.
-    #[inline(always)]
-    pub fn next_kept(&mut self, style: Style, cursor: &mut Cursor) -> Option<Report>
-        requires some { (rows : List Row) × HasTaken self.old rows }
-        requires early { self.old.taken ≤ MAX_MISSION }
-        requires cursor { ResumesAt self.old cursor.old }
-        ensures yields { IfSome result (λ report.
-            YieldsNext style (Some report) self.old self.new) }
-        ensures cursor { ResumesAt self.new cursor.new }
-        ensures onward { outs_left self.old cursor.new ≤ outs_left self.old cursor.old }
-        ensures same { IsNone result → (self.new ≡ self.old) × (cursor.new ≡ cursor.old) }
-    {
-        self.outs.next_kept(
-            style,
-            cursor,
-            &self.checked,
-            &self.ft,
-            &self.pt,
-            &self.taken,
-        )
-    }
-
-    /// What `next` gives where the cursor has no stretch and the look tells which report is the first. Else an `Err` says how to
-    /// look on, and nothing but the cursor changes. Its steps are the outputs that it looks at.
-    #[inline(always)]
-    pub fn next_at_once<L: Ledger>(
-        &mut self,
-        look: Look,
-        style: Style,
-        cursor: &mut Cursor,
-        steps: &mut Steps<L>,
-    ) -> Result<Option<Report>, Look>
-        requires some { (rows : List Row) × HasTaken self.old rows }
-        requires early { self.old.taken ≤ MAX_MISSION }
-        requires cursor { ResumesAt self.old cursor.old }
-        ensures yields { IfOk result (λ told. YieldsNext style told self.old self.new) }
-        ensures cursor { ResumesAt self.new cursor.new }
-        ensures same { OnErr result (self.new ≡ self.old) }
-        ensures counted { steps.new + outs_left self.old cursor.new
-            ≤ steps.old + outs_left self.old cursor.old + 1 }
-    {
-        self.outs.next_at_once(
-            style,
-            cursor,
-            look,
-            &self.checked,
-            &self.ft,
-            &self.pt,
-            &self.taken,
             steps,
         )
     }

@@ -1,7 +1,7 @@
 //! What contracts see of a monitor.
 
 use crate::running::Running;
-use fixed_list::Fixed;
+use mltl_base::Fixed;
 
 /// What runs, the row that was taken last, and a row that was read and isn't taken yet. No code makes one: it is what a
 /// clause sees where it speaks of a monitor.

@@ -20,9 +20,8 @@ use Rattle.r2u2_watch.specs.declared.status.Watched as watched
 use Rattle.r2u2_watch.specs.declared.trace_loop.Course.{Course}
 use Rattle.r2u2_watch.specs.Feed.{Feed, Meaning, IsPast, IsFaulty, Brings, meaning_of_line, text_meaning}
 use Rattle.r2u2_watch.specs.Trace.{TraceRows, Past, Bad, is_marked, is_header, after_header, put_line_in_front, rows_of, fed_rows}
-use Rattle.r2u2_watch.specs.Telling.{OnceOut, OwesHeld, WritesNone}
-use Rattle.r2u2_watch.specs.Turns.{Counts, HasStopped, IsHeader, MovesReader, TookLine, LineSteps, ReaderIsAt, TakesAs, TakesCut, Turns, cut_meaning, cut_text}
-use Rattle.r2u2_watch.proofs.TellLaws.{OnceOut-map, OnceOut-none}
+use Rattle.r2u2_watch.specs.Telling.{WritesNone}
+use Rattle.r2u2_watch.specs.Turns.{Counts, HasStopped, MovesReader, TookLine, LineSteps, ReaderIsAt, TakesAs, TakesCut, Turns, cut_meaning, cut_text}
 use Rattle.r2u2_watch.specs.Watch.{HasTold, IsWatch, first_of}
 use Rattle.r2u2_watch.proofs.LineLaws.{after_header-header, after_header-line, is_header-long, marked_first, meaning-text, meaning-long, meaning-past}
 use Rattle.r2u2_watch.proofs.WatchLaws.{IsLedBy-same, HasWatched, HasWatched-none, HasWatched-line, HasWatched-quiet, line_short, line_is, line_marked, line_next}
@@ -34,21 +33,16 @@ IsStep (Break watched.TheVariants.Done) = ⊥
 IsStep (Break watched.TheVariants.ReadFault) = ⊥
 IsStep answer = ⊤
 
--- what a line brought is told by how lines are read after it
-takes_on : (result : ControlFlow watched.Watched ⊤) (what : Meaning) (number : ℕ) (program : Program) (before between now : Course) (rows : List Row) (monitor : State) (events : List Event) → now.reader ≡ between.reader
-    → TakesAs result what number program before between rows monitor events → TakesAs result what number program before now rows monitor events
-takes_on (Continue u) (Brings more next) number program before between now rows monitor events same takes = record { stands = subst (λ r. ReaderIsAt next r (before.lines + 1) (rows ++ more)) (sym same) takes.stands; tells = takes.tells }
-takes_on (Break watched.TheVariants.WriteFault) (Brings more next) number program before between now rows monitor events same takes = takes
-takes_on (Break (watched.TheVariants.BadTrace line why)) (IsFaulty cause) number program before between now rows monitor events same takes = takes
-takes_on (Break watched.TheVariants.TooLong) IsPast number program before between now rows monitor events same takes = takes
-takes_on result what number program before between now rows monitor events same takes = absurd takes
-
 -- a line was cut, and then its step
-turn_by : (result : ControlFlow watched.Watched ⊤) (program : Program) (before now : Course) (feed : Feed) (rows : List Row) (start cut : Cutting) (monitor : State) (first second : List Event) → IsStep result
-    → CutsLine Trace start cut line_answer.TheVariants.Row first → LineSteps result program before now feed rows cut monitor second → Turns result program before now feed rows start cut monitor (first ++ second)
-turn_by (Break watched.TheVariants.Done) program before now feed rows start cut monitor first second is cuts steps = absurd is
-turn_by (Break watched.TheVariants.ReadFault) program before now feed rows start cut monitor first second is cuts steps = absurd is
-turn_by result program before now feed rows start cut monitor first second is cuts steps = inr (record { first = first; second = second; split = refl; cuts = cuts; next = steps })
+turns_by : (result : ControlFlow watched.Watched ⊤) (log_before log_between log_now : Option (List Event)) (program : Program) (before now : Course) (feed : Feed) (rows : List Row) (start cut : Cutting) (monitor : State) → IsStep result
+    → OnLog log_before log_between (CutsLine Trace start cut line_answer.TheVariants.Row) → OnLog log_between log_now (LineSteps result program before now feed rows cut monitor) → OnLog log_before log_now (Turns result program before now feed rows start cut monitor)
+turns_by (Break watched.TheVariants.Done) log_before log_between log_now program before now feed rows start cut monitor is cuts steps = absurd is
+turns_by (Break watched.TheVariants.ReadFault) log_before log_between log_now program before now feed rows start cut monitor is cuts steps = absurd is
+turns_by result log_before log_between log_now program before now feed rows start cut monitor is cuts steps = record {
+  events = cuts.events ++ steps.events;
+  appended = Appends-then log_before log_between log_now cuts.events steps.events cuts.appended steps.appended;
+  holds = inr (record { first = cuts.events; second = steps.events; split = refl; cuts = cuts.holds; next = steps.holds });
+}
 
 -- no line ends the loop as if the trace had ended or couldn't be read
 not_done : (what : Meaning) (number : ℕ) (program : Program) (before now : Course) (rows : List Row) (monitor : State) (events : List Event) → TakesAs (Break watched.TheVariants.Done) what number program before now rows monitor events → ⊥
@@ -65,47 +59,40 @@ is_step (Break watched.TheVariants.TooLong) program before now feed rows cut mon
 is_step (Break (watched.TheVariants.BadTrace number why)) program before now feed rows cut monitor events steps = tt
 is_step (Break watched.TheVariants.WriteFault) program before now feed rows cut monitor events steps = tt
 
-turn_step : (result : ControlFlow watched.Watched ⊤) (program : Program) (before now : Course) (feed : Feed) (rows : List Row) (start cut : Cutting) (monitor : State) (first second : List Event)
-    → CutsLine Trace start cut line_answer.TheVariants.Row first → LineSteps result program before now feed rows cut monitor second → Turns result program before now feed rows start cut monitor (first ++ second)
-turn_step result program before now feed rows start cut monitor first second cuts steps =
-    turn_by result program before now feed rows start cut monitor first second (is_step result program before now feed rows cut monitor second steps) cuts steps
+pub Turns-step : (result : ControlFlow watched.Watched ⊤) (log_before log_between log_now : Option (List Event)) (program : Program) (before now : Course) (feed : Feed) (rows : List Row) (start cut : Cutting) (monitor : State)
+    → OnLog log_before log_between (CutsLine Trace start cut line_answer.TheVariants.Row) → OnLog log_between log_now (LineSteps result program before now feed rows cut monitor) → OnLog log_before log_now (Turns result program before now feed rows start cut monitor)
+Turns-step result log_before log_between log_now program before now feed rows start cut monitor cuts steps =
+    turns_by result log_before log_between log_now program before now feed rows start cut monitor (is_step result program before now feed rows cut monitor steps.events steps.holds) cuts steps
 
--- once what is held is out
-turn_owes : (result : ControlFlow watched.Watched ⊤) (program : Program) (before now : Course) (feed : Feed) (rows : List Row) (start cut : Cutting) (held : List ℕ) (monitor : State) (first second : List Event)
-    → CutsLine Trace start cut line_answer.TheVariants.Row first → OwesHeld (λ answer. LineSteps answer program before now feed rows cut monitor) result held second
-    → OwesHeld (λ answer. Turns answer program before now feed rows start cut monitor) result held (first ++ second)
-turn_owes (Continue u) program before now feed rows start cut held monitor first second cuts owes =
-    OnceOut-map (LineSteps (Continue u) program before now feed rows cut monitor) (LineSteps (Break watched.TheVariants.WriteFault) program before now feed rows cut monitor)
-    (Turns (Continue u) program before now feed rows start cut monitor) (Turns (Break watched.TheVariants.WriteFault) program before now feed rows start cut monitor) held first second
-    (λ events steps. turn_step (Continue u) program before now feed rows start cut monitor first events cuts steps)
-    (λ events steps. turn_step (Break watched.TheVariants.WriteFault) program before now feed rows start cut monitor first events cuts steps) owes
-turn_owes (Break answer) program before now feed rows start cut held monitor first second cuts steps = turn_step (Break answer) program before now feed rows start cut monitor first second cuts steps
+-- what a line brought is told by how lines are read after it
+takes_on : (result : ControlFlow watched.Watched ⊤) (what : Meaning) (number : ℕ) (program : Program) (before between now : Course) (rows : List Row) (monitor : State) (events : List Event) → now.reader ≡ between.reader
+    → TakesAs result what number program before between rows monitor events → TakesAs result what number program before now rows monitor events
+takes_on (Continue u) (Brings more next) number program before between now rows monitor events same takes = record { stands = subst (λ r. ReaderIsAt next r (before.lines + 1) (rows ++ more)) (sym same) takes.stands; tells = takes.tells }
+takes_on (Break watched.TheVariants.WriteFault) (Brings more next) number program before between now rows monitor events same takes = takes
+takes_on (Break (watched.TheVariants.BadTrace line why)) (IsFaulty cause) number program before between now rows monitor events same takes = takes
+takes_on (Break watched.TheVariants.TooLong) IsPast number program before between now rows monitor events same takes = takes
+takes_on result what number program before between now rows monitor events same takes = absurd takes
 
-pub Turns-step : (result : ControlFlow watched.Watched ⊤) (log_before log_between log_now : Option (List Event)) (program : Program) (before now : Course) (feed : Feed) (rows : List Row) (start cut : Cutting) (held : List ℕ) (monitor : State)
-    → OnLog log_before log_between (CutsLine Trace start cut line_answer.TheVariants.Row) → OnLog log_between log_now (OwesHeld (λ answer. LineSteps answer program before now feed rows cut monitor) result held)
-    → OnLog log_before log_now (OwesHeld (λ answer. Turns answer program before now feed rows start cut monitor) result held)
-Turns-step result log_before log_between log_now program before now feed rows start cut held monitor cuts steps = record {
-  events = cuts.events ++ steps.events;
-  appended = Appends-then log_before log_between log_now cuts.events steps.events cuts.appended steps.appended;
-  holds = turn_owes result program before now feed rows start cut held monitor cuts.events steps.events cuts.holds steps.holds;
-}
+-- a line that was taken, once it is counted
+pub took_line : (program : Program) (before between now : Course) (feed : Feed) (rows : List Row) (cut : Cutting) (monitor : State) (events : List Event) → Counts before.mission before.lines cut → MovesReader before between → now.mission ≡ between.mission
+    → now.style ≡ between.style → now.lines ≡ between.lines + 1 → now.reader ≡ between.reader → TakesCut (Continue tt) program before between feed rows cut monitor events → LineSteps (Continue tt) program before now feed rows cut monitor events
+took_line program before between now feed rows cut monitor events counts moves mission style lines reader takes =
+    inr (record {
+      mission = mission ∙ moves.mission;
+      style = style ∙ moves.style;
+      lines = lines ∙ ap (λ n. n + 1) moves.lines;
+      counts = counts;
+      takes = takes_on (Continue tt) (cut_meaning program before feed cut) cut.number program before between now rows monitor events reader takes;
+    })
 
--- the header, once what is held is out: nothing is
-pub header_owes : (program : Program) (before now : Course) (feed : Feed) (rows : List Row) (cut : Cutting) (held : List ℕ) (monitor : State) (events : List Event) → held ≡ [] → IsHeader program before now rows cut monitor events
-    → OnceOut (LineSteps (Continue tt) program before now feed rows cut monitor) (LineSteps (Break watched.TheVariants.WriteFault) program before now feed rows cut monitor) held events
-header_owes program before now feed rows cut held monitor events none header =
-    OnceOut-none (LineSteps (Continue tt) program before now feed rows cut monitor) (LineSteps (Break watched.TheVariants.WriteFault) program before now feed rows cut monitor) held events none (inl header)
-
--- another line, once what is held is out
-pub line_owes : (program : Program) (before between now : Course) (feed : Feed) (rows : List Row) (cut : Cutting) (held : List ℕ) (monitor : State) (events : List Event) → Counts before.mission before.lines cut → MovesReader before between
-    → now.mission ≡ between.mission → now.style ≡ between.style → now.lines ≡ between.lines + 1 → now.reader ≡ between.reader
-    → OnceOut (TakesCut (Continue tt) program before between feed rows cut monitor) (TakesCut (Break watched.TheVariants.WriteFault) program before between feed rows cut monitor) held events
-    → OnceOut (LineSteps (Continue tt) program before now feed rows cut monitor) (LineSteps (Break watched.TheVariants.WriteFault) program before now feed rows cut monitor) held events
-line_owes program before between now feed rows cut held monitor events counts moves mission style lines reader owes =
-    OnceOut-map (TakesCut (Continue tt) program before between feed rows cut monitor) (TakesCut (Break watched.TheVariants.WriteFault) program before between feed rows cut monitor)
-    (LineSteps (Continue tt) program before now feed rows cut monitor) (LineSteps (Break watched.TheVariants.WriteFault) program before now feed rows cut monitor) held [] events
-    (λ wrote takes. inr (record { mission = mission ∙ moves.mission; style = style ∙ moves.style; lines = lines ∙ ap (λ n. n + 1) moves.lines; counts = counts; takes = takes_on (Continue tt) (cut_meaning program before feed cut) cut.number program before between now rows monitor wrote reader takes }))
-    (λ wrote takes. record { counts = counts; takes = takes_on (Break watched.TheVariants.WriteFault) (cut_meaning program before feed cut) cut.number program before between now rows monitor wrote reader takes }) owes
+-- a line that ended the loop
+pub stopped : (answer : watched.Watched) (program : Program) (before now : Course) (feed : Feed) (rows : List Row) (cut : Cutting) (monitor : State) (events : List Event) → HasStopped answer program before now feed rows cut monitor events
+    → LineSteps (Break answer) program before now feed rows cut monitor events
+stopped watched.TheVariants.Done program before now feed rows cut monitor events h = h
+stopped watched.TheVariants.TooLong program before now feed rows cut monitor events h = inr h
+stopped (watched.TheVariants.BadTrace number why) program before now feed rows cut monitor events h = h
+stopped watched.TheVariants.ReadFault program before now feed rows cut monitor events h = h
+stopped watched.TheVariants.WriteFault program before now feed rows cut monitor events h = h
 
 -- after some lines
 abbrev pub HasLinesAt : Program → (List (List ℕ) → TraceRows) → Cutting → Cutting → State → ℕ → Style → ℕ → Reader → Feed → List Event → Type 0

@@ -1,10 +1,7 @@
 -- The lines of reports, told one after another.
 
 use Rattle.std.proofs.Common.{◌≡◌, ℕ, ◌+◌, ◌-◌, ◌≤◌, arith, replicate, List, [], ◌∷◌, ◌++◌, Bool, true, false, map, refl, sym, ◌∙◌, ap, subst, append_assoc}
-use Rattle.std.specs.Prelude.{⊤, IsTrue}
 use Rattle.std.specs.List.{concat}
-use Rattle.std.specs.declared.ops.ControlFlow.{ControlFlow}
-use Rattle.std.specs.declared.ops.ControlFlow.TheVariants.{Continue, Break}
 use Rattle.std.proofs.lemmas.List.{append-nil, map-append, replicate-append-replicate}
 use Rattle.std.proofs.lemmas.List.Folds.{concat-append}
 use Rattle.mltl_base.specs.Programs.{outputs, output_names}
@@ -15,105 +12,54 @@ use Rattle.mltl_base.specs.Lines.{line, lines_of_reports}
 use Rattle.mltl_base.specs.declared.report.Style.{Style}
 use Rattle.mltl_base.specs.declared.program.Program.{Program}
 use Rattle.mltl_base.specs.Atoms.{Row}
-use Rattle.tool_io.specs.declared.host.Place.{Place}
-use Rattle.tool_io.specs.declared.host.Place.TheVariants.{Out, Trace}
-use Rattle.tool_io.specs.Host.{NoFault}
-use Rattle.tool_io.proofs.HostLaws.{NoFault-then, RoseAt-after, RoseAt-before}
+use Rattle.tool_io.specs.declared.host.Place.TheVariants.{Out}
 use Rattle.tool_io.specs.Log.{Event, Writes, WritesFront}
 use Rattle.tool_io.proofs.ListLaws.{some-append}
 use Rattle.tool_io.proofs.LogLaws.{Writes-none, Writes-then, WritesFront-then}
 use Rattle.r2u2_monitor.specs.declared.state.State.{State}
 use Rattle.r2u2_monitor.specs.Monitoring.{program_of, open_in, Stands, TakesRow}
-use Rattle.r2u2_watch.specs.declared.status.Watched.{Watched}
-use Rattle.r2u2_watch.specs.declared.status.Watched.TheVariants.{Done, TooLong, BadTrace, ReadFault, WriteFault}
-use Rattle.r2u2_watch.specs.Watch.{HasTold, WatchCause}
-use Rattle.r2u2_watch.specs.Telling.{Flushes, GoesOn, GoesOnCause, IfGoesOn, OwesHeld, StepCause, HasSent, SendsAll, SendsBut, SendsText, OnceOut, OwesRows, IsDrainedIf, text_after, TellsAll, TakesFront, TellsFront, TellsRows}
+use Rattle.r2u2_watch.specs.Watch.{HasTold}
+use Rattle.r2u2_watch.specs.Telling.{SendsText, IsDrainedIf, text_after, TellsAll, TakesFront, TellsFront, TellsRows}
+
+-- of the lines that were due, these bytes went out and those are left
+pub record HasSent (due left : List ℕ) (events : List Event) : Type 0 where
+  pub sent : List ℕ
+  pub writes : Writes Out sent events
+  pub split : due ≡ sent ++ left
 
 pub HasSent-none : (due : List ℕ) → HasSent due due []
 HasSent-none due = record { sent = []; writes = Writes-none Out; split = refl }
 
--- one more line, of which some is left
-pub HasSent-more : (due left rest piece kept : List ℕ) (first second : List Event) → HasSent due left first → left ≡ piece ++ rest → HasSent piece kept second → HasSent due (kept ++ rest) (first ++ second)
-HasSent-more due left rest piece kept first second a is b =
+-- one more line
+pub HasSent-more : (due left rest piece : List ℕ) (first second : List Event) → HasSent due left first → left ≡ piece ++ rest → Writes Out piece second → HasSent due rest (first ++ second)
+HasSent-more due left rest piece first second a is b =
     record {
-      sent = a.sent ++ b.sent;
-      writes = Writes-then Out a.sent b.sent first second a.writes b.writes;
-      split = a.split ∙ ap (λ bytes. a.sent ++ bytes) (is ∙ ap (λ bytes. bytes ++ rest) b.split ∙ append_assoc b.sent kept rest) ∙ sym (append_assoc a.sent b.sent (kept ++ rest));
+      sent = a.sent ++ piece;
+      writes = Writes-then Out a.sent piece first second a.writes b;
+      split = a.split ∙ ap (λ bytes. a.sent ++ bytes) is ∙ sym (append_assoc a.sent piece rest);
     }
 
--- all that is left goes out too, or a prefix of it
-pub HasSent-all : (due left : List ℕ) (first second : List Event) → HasSent due left first → Writes Out left second → Writes Out due (first ++ second)
-HasSent-all due left first second a b = subst (λ bytes. Writes Out bytes (first ++ second)) (sym a.split) (Writes-then Out a.sent left first second a.writes b)
+-- all of them, or a front of them
+pub HasSent-all : (due left : List ℕ) (events : List Event) → HasSent due left events → left ≡ [] → Writes Out due events
+HasSent-all due left events a none =
+    let all : due ≡ a.sent = a.split ∙ ap (λ bytes. a.sent ++ bytes) none ∙ append-nil a.sent in
+    subst (λ bytes. Writes Out bytes events) (sym all) a.writes
 
-pub HasSent-rest : (due left : List ℕ) (first second : List Event) → HasSent due left first → WritesFront Out left second → WritesFront Out due (first ++ second)
-HasSent-rest due left first second a b = subst (λ bytes. WritesFront Out bytes (first ++ second)) (sym a.split) (WritesFront-then Out a.sent left first second a.writes b)
-
--- where nothing is left, all went out
-writes_all : (held left : List ℕ) (events : List Event) → HasSent held left events → left ≡ [] → Writes Out held events
-writes_all held left events a none = subst (λ bytes. Writes Out bytes events) (sym (a.split ∙ ap (λ bytes. a.sent ++ bytes) none ∙ append-nil a.sent)) a.writes
-
--- what was left went out, and nothing is left now
-pub sends_rest : (whole : Bool) (due between left : List ℕ) (first second : List Event) → HasSent due between first → Flushes whole between left second → (IsTrue whole → left ≡ []) → SendsText whole due (first ++ second)
-sends_rest true due between left first second a b none = HasSent-all due between first second a (writes_all between left second b.sends (none refl))
-sends_rest false due between left first second a b none = HasSent-rest due between first second a b
-
--- a prefix of some bytes is one of more bytes
-pub front_longer : (piece rest : List ℕ) (events : List Event) → WritesFront Out piece events → WritesFront Out (piece ++ rest) events
-front_longer piece rest events front =
+pub HasSent-front : (due left rest piece : List ℕ) (first second : List Event) → HasSent due left first → left ≡ piece ++ rest → WritesFront Out piece second → WritesFront Out due (first ++ second)
+HasSent-front due left rest piece first second a is b =
+    let front = WritesFront-then Out a.sent piece first second a.writes b in
     record {
       sent = front.sent;
       unsent = front.unsent ++ rest;
-      split = ap (λ bytes. bytes ++ rest) front.split ∙ append_assoc front.sent front.unsent rest;
+      split = a.split ∙ ap (λ bytes. a.sent ++ bytes) is ∙ sym (append_assoc a.sent piece rest) ∙ ap (λ bytes. bytes ++ rest) front.split ∙ append_assoc front.sent front.unsent rest;
       misses = some-append front.unsent rest front.misses;
       writes = front.writes;
     }
 
-pub HasSent-front : (due left rest piece : List ℕ) (first second : List Event) → HasSent due left first → left ≡ piece ++ rest → WritesFront Out piece second → WritesFront Out due (first ++ second)
-HasSent-front due left rest piece first second a is b = HasSent-rest due left first second a (subst (λ bytes. WritesFront Out bytes second) (sym is) (front_longer piece rest second b))
-
--- what is held went out, and a line is held in its place
-pub line_held : (held line : List ℕ) (events : List Event) → SendsAll held events → HasSent (held ++ line) line events
-line_held held line events sends = record { sent = held; writes = sends.writes; split = refl }
-
--- nothing was held, and no more is written
-pub SendsAll-none : (held : List ℕ) → held ≡ [] → SendsAll held []
-SendsAll-none held none = record { writes = subst (λ bytes. Writes Out bytes []) (sym none) (Writes-none Out); quiet = λ is. refl }
-
-no_front : (events : List Event) → WritesFront Out [] events → ⊥
-no_front events front =
-    let misses = front.misses in
-    elim front.sent as (λ sent. [] ≡ sent ++ front.unsent → ⊥) [
-      | [] ↦ λ is. misses (sym is)
-      | x ∷ xs ↦ λ is. cc
-    ] front.split
-
--- where nothing is held, a fact holds already
-pub OnceOut-none : (P Q : List Event → Type 0) (held : List ℕ) (events : List Event) → held ≡ [] → P events → OnceOut P Q held events
-OnceOut-none P Q held events none holds = record {
-  all = λ more sends. subst P (sym (ap (λ w. events ++ w) (sends.quiet none) ∙ append-nil events)) holds;
-  front = λ more front. absurd (no_front more (subst (λ bytes. WritesFront Out bytes more) none front));
-}
-
--- what follows once what is held is out
-pub OnceOut-map : (P Q R S : List Event → Type 0) (held : List ℕ) (first second : List Event) → ((events : List Event) → P events → R (first ++ events)) → ((events : List Event) → Q events → S (first ++ events)) → OnceOut P Q held second → OnceOut R S held (first ++ second)
-OnceOut-map P Q R S held first second change fails once = record {
-  all = λ more sends. subst R (sym (append_assoc first second more)) (change (second ++ more) (once.all more sends));
-  front = λ more front. subst S (sym (append_assoc first second more)) (fails (second ++ more) (once.front more front));
-}
-
--- rows are told once what is held is out
-pub OwesRows-some : (whole : Bool) (program : Program) (style : Style) (rows more : List Row) (held : List ℕ) (monitor : State) (due : List ℕ) (first second : List Event) → SendsBut whole due held second → IsDrainedIf whole monitor
-    → ((all : Bool) (events : List Event) → IsDrainedIf all monitor → SendsText all due events → TellsRows all program style rows more monitor (first ++ events)) → OwesRows whole program style rows more held monitor (first ++ second)
-OwesRows-some true program style rows more held monitor due first second sends drained tells = record {
-  all = λ wrote all. subst (TellsAll program style rows more monitor) (sym (append_assoc first second wrote)) (tells true (second ++ wrote) drained (HasSent-all due held second wrote sends all.writes));
-  front = λ wrote front. subst (TellsFront program style rows more monitor) (sym (append_assoc first second wrote)) (tells false (second ++ wrote) tt (HasSent-rest due held second wrote sends front));
-}
-OwesRows-some false program style rows more held monitor due first second sends drained tells = tells false second tt sends
-
--- what is held, the line of the first report, and the lines of the others
-pub next_line : (names now : List (List ℕ)) (all rest : List Report) (report : Report) (held : List ℕ) → all ≡ report ∷ rest → now ≡ names → held ++ lines_of_reports names all ≡ (held ++ line now report) ++ lines_of_reports names rest
-next_line names now all rest report held first same =
-    ap (λ bytes. held ++ bytes) (ap (lines_of_reports names) first ∙ ap (λ (ns : List (List ℕ)). line ns report ++ lines_of_reports names rest) (sym same)) ∙ sym (append_assoc held (line now report) (lines_of_reports names rest))
+-- the line of the first report, and the lines of the others
+pub next_line : (names now : List (List ℕ)) (all rest : List Report) (report : Report) → all ≡ report ∷ rest → now ≡ names → lines_of_reports names all ≡ line now report ++ lines_of_reports names rest
+next_line names now all rest report first same =
+    ap (lines_of_reports names) first ∙ ap (λ (ns : List (List ℕ)). line ns report ++ lines_of_reports names rest) (sym same)
 
 -- what is due for one more row
 pub due_row : (style : Style) (rows : List Row) (row : Row) (before between : State) → TakesRow row before between → Stands before rows → lines_of_reports (output_names (program_of between)) (open_in style between (rows ++ row ∷ [])) ≡ lines_of_reports (output_names (program_of before)) (reports_after style (outputs (program_of before)) rows (row ∷ []))
@@ -245,28 +191,3 @@ pub TellsFront-held : (program : Program) (style : Style) (rows : List Row) (row
 TellsFront-held program style rows row done times monitor events within a =
     let sum : done + (times - done) ≡ times = omega (arith, within) in
     subst (λ all. TellsFront program style rows all monitor events) (replicate-append-replicate done (times - done) row ∙ ap (λ n. replicate n row) sum) (TellsFront-more program style rows (replicate done row) (replicate (times - done) row) monitor events a)
-
--- what is held was written before the loop goes on, so what holds once it is out holds
-pub flushed : (P : ControlFlow Watched ⊤ → List Event → Type 0) (flow result : ControlFlow Watched ⊤) (held left : List ℕ) (first second : List Event) → OwesHeld P flow held first → GoesOn flow result held left second → IfGoesOn result (left ≡ []) → P result (first ++ second)
-flushed P (Continue u) (Continue v) held left first second owes sends none =
-    owes.all second (record { writes = writes_all held left second sends.sends none; quiet = sends.quiet })
-flushed P (Continue u) (Break WriteFault) held left first second owes front none = owes.front second front
-flushed P (Break answer) (Break told) held left first second owes ends none =
-    subst (λ a. P (Break a) (first ++ second)) (sym ends.0) (subst (P (Break answer)) (sym (ap (λ w. first ++ w) ends.1 ∙ append-nil first)) owes)
-flushed P flow result held left first second owes none is = absurd none
-
--- no further fault leaves the cause as it was
-cause_then : (answer : Watched) (before between now : Place → ℕ) → WatchCause answer before between → NoFault between now → WatchCause answer before now
-cause_then Done before between now a b = NoFault-then before between now a b
-cause_then TooLong before between now a b = NoFault-then before between now a b
-cause_then (BadTrace number why) before between now a b = NoFault-then before between now a b
-cause_then ReadFault before between now a b = RoseAt-before before between now Trace a b
-cause_then WriteFault before between now a b = RoseAt-before before between now Out a b
-
--- and the counts that rose
-pub flush_cause : (flow result : ControlFlow Watched ⊤) (held left : List ℕ) (second : List Event) (before between now : Place → ℕ) → GoesOn flow result held left second → StepCause flow before between → GoesOnCause flow result between now → StepCause result before now
-flush_cause (Continue u) (Continue v) held left second before between now flushes a b = NoFault-then before between now a b
-flush_cause (Continue u) (Break WriteFault) held left second before between now flushes a b = RoseAt-after before between now Out a b
-flush_cause (Break answer) (Break told) held left second before between now flushes a b =
-    subst (λ t. WatchCause t before now) (sym flushes.0) (cause_then answer before between now a b)
-flush_cause flow result held left second before between now flushes a b = absurd flushes

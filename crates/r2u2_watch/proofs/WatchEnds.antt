@@ -166,8 +166,3 @@ module _ (program : Program) (style : Style) (rows_in : List (List ℕ) → Trac
             (was.0, taken-append Trace (events ++ reads) wrote ∙ ap (λ b. b ++ taken Trace wrote) was.1 ∙ Writes-taken Out Trace sends.sent wrote sends.writes);
         only = OnlyRun-append (events ++ reads) wrote (line_only program style rows_in start cut new monitor rest before Keeps events reads has line_answer.TheVariants.Row cuts) (subst OnlyRun (sym sends.writes.are) (OnlyRun-writes sends.writes.pieces));
       }
-
--- nothing was written after a line
-pub ends_quiet : (program : Program) (style : Style) (rows_in : List (List ℕ) → TraceRows) (start new : Cutting) (after : State) (answer : watched.Watched) (events second first wrote : List Event) → second ≡ first ++ wrote → wrote ≡ [] → IsWatch program style rows_in start new after answer (events ++ first) → IsWatch program style rows_in start new after answer (events ++ second)
-ends_quiet program style rows_in start new after answer events second first wrote split none is =
-    subst (λ all. IsWatch program style rows_in start new after answer (events ++ all)) (sym (split ∙ ap (λ rest. first ++ rest) none ∙ append-nil first)) is

@@ -8,7 +8,7 @@ use Rattle.mltl_base.specs.Atoms.{Row}
 use Rattle.mltl_base.specs.Programs.{outputs, output_names}
 use Rattle.mltl_base.specs.Lines.{lines}
 use Rattle.tool_io.specs.Cutting.{line_text, lines_of, is_long}
-use Rattle.trace_feed.specs.Header.{begins_header}
+use Rattle.trace_columns.specs.Header.{begins_header}
 use Rattle.trace_feed.specs.declared.trace_why.TraceWhy.{TraceWhy}
 use Rattle.r2u2_watch.specs.Feed.{Feed, Plain, Stamped, Meaning, IsPast, IsFaulty, Brings, meaning_of_line}
 

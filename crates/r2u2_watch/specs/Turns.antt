@@ -66,11 +66,6 @@ pub record IsUnderWay (course : Course) (monitor : State) : Type 0 where
   pub counted : IsCounted course.reader course.lines (taken_by monitor)
   pub mission : course.mission ≤ MAX_MISSION
 
--- and no line is held
-pub record IsReady (course : Course) (monitor : State) (held : List ℕ) : Type 0 where
-  pub under_way : IsUnderWay course monitor
-  pub none : held ≡ []
-
 -- a fact of a row that was found, by how many copies of the last one come before it
 abbrev pub IfRow : found.Found → (ℕ → Type 0) → Type 0
 IfRow (found.TheVariants.Row copies now) P = P copies

@@ -1,6 +1,6 @@
 //! The loop over a trace.
 
-ghost use Rattle.std.specs.Prelude.{◌≡◌, ◌≤◌, ◌<◌, ◌^◌, [], false, IsSome, List};
+ghost use Rattle.std.specs.Prelude.{◌≡◌, ◌≤◌, ◌<◌, ◌^◌, false, IsSome, List};
 ghost use Rattle.mltl_base.specs.Atoms.{Row};
 ghost use Rattle.tool_io.specs.Log.{OnLog, Prompt};
 ghost use Rattle.r2u2_monitor.specs.Monitoring.{program_of, IsDrained, IsSame, Stands};
@@ -8,12 +8,12 @@ ghost use Rattle.r2u2_watch.specs.Feed.{Feed, text_meaning};
 ghost use Rattle.r2u2_watch.specs.Trace.{due, is_marked, fed_rows, trace_rows, stamped_rows};
 ghost use Rattle.r2u2_watch.specs.Watch.{CanWatch, EndsDone, IsWatch, NoneRose, WatchCause, first_of};
 ghost use Rattle.r2u2_watch.specs.Endings.{told_as};
-ghost use Rattle.r2u2_watch.specs.Telling.{IfEnds, IfGoesOn, OwesHeld, StepCause};
-ghost use Rattle.r2u2_watch.specs.Turns.{CanTake, Finds, IfRow, IsAtStart, IsReady, IsUnderWay, LineSteps, MovesReader, ReaderIsAt, TakesCut, Turns, begins_at, cut_text};
+ghost use Rattle.r2u2_watch.specs.Telling.{StepCause};
+ghost use Rattle.r2u2_watch.specs.Turns.{CanTake, Finds, IfRow, IsAtStart, IsUnderWay, LineSteps, MovesReader, ReaderIsAt, TakesCut, Turns, begins_at, cut_text};
 
 use crate::Watched;
 use crate::reader::{Found, Reader, read_fields, read_stamped};
-use crate::report_lines::{Held, go_on, take_after};
+use crate::report_lines::take_rows;
 use crate::status::{Ending, LineFault};
 use mltl_base::Style;
 use mltl_base::steps::Steps;
@@ -79,33 +79,31 @@ impl Course {
         }
     }
 
-    /// Takes the line of the last Row, and writes its lines, but for the last one, which is held then.
+    /// Takes the row of the line that was cut, and writes its verdict lines.
     #[inline(always)]
-    fn take<H: Host, L: Ledger>(
+    fn take_row<H: Host, L: Ledger>(
         &mut self,
         monitor: &mut Monitor,
         cut: &LineCut,
         host: &mut H,
-        held: &mut Held,
         steps: &mut Steps<L>,
     ) -> ControlFlow<Ending, ()>
         requires row { IsSome cut.now.row }
-        requires ready { IsReady self.old monitor.old held.old }
+        requires under_way { IsUnderWay self.old monitor.old }
         requires within { self.old.lines < self.old.mission }
         ensures cause { StepCause (told_as result) (H.faults host.old) (H.faults host.new) }
         ensures log { (rows : List Row) (feed : Feed) → Stands monitor.old rows
             → ReaderIsAt feed self.old.reader self.old.lines rows
             → OnLog (H.log host.old) (H.log host.new)
-            (OwesHeld (λ answer. TakesCut answer (program_of monitor.old) self.old self.new feed
-            rows cut.now monitor.new) (told_as result) held.new) }
-        ensures ends { IfEnds (told_as result) (held.new ≡ []) }
+            (TakesCut (told_as result) (program_of monitor.old) self.old self.new feed rows
+            cut.now monitor.new) }
         ensures program { program_of monitor.new ≡ program_of monitor.old }
         ensures moves { MovesReader self.old self.new }
     {
         match self.read(monitor, cut.line()) {
             Found::Row(copies, reader) => {
                 self.reader = reader;
-                if take_after(monitor, host, copies, self.style, held, steps) {
+                if take_rows(monitor, host, copies, self.style, steps) {
                     Continue(())
                 } else {
                     Break(Ending::WriteFault)
@@ -117,83 +115,16 @@ impl Course {
         }
     }
 
-    /// Takes the line of the last Row, unless it is the header or past the mission time.
+    /// Cuts the next line of the trace, and takes its row unless it is the header or past the mission time.
     #[inline(always)]
-    fn step<H: Host, L: Ledger>(
-        &mut self,
-        monitor: &mut Monitor,
-        cut: &LineCut,
-        host: &mut H,
-        held: &mut Held,
-        steps: &mut Steps<L>,
-    ) -> ControlFlow<Ending, ()>
-        requires row { IsSome cut.now.row }
-        requires ready { IsReady self.old monitor.old held.old }
-        requires within { self.old.lines ≤ self.old.mission }
-        ensures cause { StepCause (told_as result) (H.faults host.old) (H.faults host.new) }
-        ensures log { (rows : List Row) (feed : Feed) → Stands monitor.old rows
-            → ReaderIsAt feed self.old.reader self.old.lines rows
-            → OnLog (H.log host.old) (H.log host.new)
-            (OwesHeld (λ answer. LineSteps answer (program_of monitor.old) self.old self.new feed
-            rows cut.now monitor.new) (told_as result) held.new) }
-        ensures ends { IfEnds (told_as result) (held.new ≡ []) }
-        ensures program { program_of monitor.new ≡ program_of monitor.old }
-    {
-        if is_header(cut) {
-            return Continue(());
-        }
-        if self.lines == self.mission {
-            return Break(Ending::TooLong);
-        }
-        self.take(monitor, cut, host, held, steps)?;
-        self.lines += 1;
-        Continue(())
-    }
-
-    /// Cuts one more line, and takes it. The last line that it brings is held then.
-    #[inline(always)]
-    fn advance<H: Host, L: Ledger>(
+    fn next_line<H: Host, L: Ledger>(
         &mut self,
         monitor: &mut Monitor,
         cut: &mut LineCut,
         host: &mut H,
-        held: &mut Held,
         steps: &mut Steps<L>,
     ) -> ControlFlow<Ending, ()>
-        requires ready { IsReady self.old monitor.old held.old }
-        requires within { self.old.lines ≤ self.old.mission }
-        ensures cause { StepCause (told_as result) (H.faults host.old) (H.faults host.new) }
-        ensures log { (rows : List Row) (feed : Feed) → Stands monitor.old rows
-            → ReaderIsAt feed self.old.reader self.old.lines rows
-            → OnLog (H.log host.old) (H.log host.new)
-            (OwesHeld (λ answer. Turns answer (program_of monitor.old) self.old self.new feed rows
-            cut.old cut.new monitor.new) (told_as result) held.new) }
-        ensures ends { IfEnds (told_as result) (held.new ≡ []) }
-        ensures program { program_of monitor.new ≡ program_of monitor.old }
-    {
-        match cut.next_line(host, Place::Trace) {
-            Line::Row => self.step(monitor, cut, host, held, steps),
-            Line::End => Break(Ending::Done),
-            Line::ReadFault => Break(Ending::ReadFault),
-            Line::LongLine if self.lines == self.mission => Break(Ending::TooLong),
-            Line::LongLine => {
-                let number = cut.number().saturating_add(1);
-                Break(Ending::BadLine(number, LineFault::LongLine))
-            }
-        }
-    }
-
-    /// Cuts one more line, takes it, and writes its lines. Before the trace is read on, no line is held.
-    #[inline(always)]
-    fn turn<H: Host, L: Ledger>(
-        &mut self,
-        monitor: &mut Monitor,
-        cut: &mut LineCut,
-        host: &mut H,
-        held: &mut Held,
-        steps: &mut Steps<L>,
-    ) -> ControlFlow<Ending, ()>
-        requires ready { IsReady self.old monitor.old held.old }
+        requires under_way { IsUnderWay self.old monitor.old }
         requires within { self.old.lines ≤ self.old.mission }
         ensures cause { StepCause (told_as result) (H.faults host.old) (H.faults host.new) }
         ensures log { (rows : List Row) (feed : Feed) → Stands monitor.old rows
@@ -201,11 +132,24 @@ impl Course {
             → OnLog (H.log host.old) (H.log host.new)
             (Turns (told_as result) (program_of monitor.old) self.old self.new feed rows
             cut.old cut.new monitor.new) }
-        ensures prompt { IfGoesOn (told_as result) (held.new ≡ []) }
         ensures program { program_of monitor.new ≡ program_of monitor.old }
     {
-        let flow = self.advance(monitor, cut, host, held, steps);
-        go_on(host, held, flow)
+        match cut.next_line(host, Place::Trace) {
+            Line::End => Break(Ending::Done),
+            Line::ReadFault => Break(Ending::ReadFault),
+            Line::Row if is_header(cut) => Continue(()),
+            Line::Row if self.lines == self.mission => Break(Ending::TooLong),
+            Line::LongLine if self.lines == self.mission => Break(Ending::TooLong),
+            Line::Row => {
+                self.take_row(monitor, cut, host, steps)?;
+                self.lines += 1;
+                Continue(())
+            }
+            Line::LongLine => {
+                let number = cut.number().saturating_add(1);
+                Break(Ending::BadLine(number, LineFault::LongLine))
+            }
+        }
     }
 }
 
@@ -230,9 +174,8 @@ fn turns<H: Host, L: Ledger>(
     ensures program { program_of monitor.new ≡ program_of monitor.old }
 {
     let mut steps = Steps::<L>::start(blank);
-    let mut held = Held::new();
     loop {
-        if let Break(ending) = course.turn(monitor, cut, host, &mut held, &mut steps) {
+        if let Break(ending) = course.next_line(monitor, cut, host, &mut steps) {
             return ending.watched();
         }
     }

@@ -1,6 +1,6 @@
 //! A ring of merged runs, and its slots.
 
-ghost use Rattle.std.specs.Prelude.{◌≡◌, ◌≢◌, ℕ, ◌+◌, ◌-◌, ◌^◌, ◌<◌, ◌≤◌, ◌⊎◌, max, length, List, nat_lt, if◌then◌else◌, IfSome, IsTrue};
+ghost use Rattle.std.specs.Prelude.{◌≡◌, ◌≢◌, ℕ, ◌+◌, ◌-◌, ◌^◌, ◌<◌, ◌≤◌, ◌⊎◌, max, length, List, nat_lt, if◌then◌else◌};
 ghost use Rattle.mltl_base.specs.declared.limits.TheConstants.{TIME_END};
 ghost use Rattle.scq_ring.specs.Runs.{Belongs, IsAround, IsClear, IsClosed, IsTurned, IsWritten, KeepsNewest, Shows, TakesRun, frontier_of, low_of, ring_index_of, runs_of, runs_to, upto_at, verdict_at};
 ghost use Rattle.scq_ring.specs.declared.runs.Slot.{Slot};
@@ -170,73 +170,6 @@ impl Ring {
         Seen::Run(run.upto, run.value)
     }
 
-    /// What a read shows where that takes no search: the newest run, or nothing at or past the frontier. `None` where time `from`
-    /// lies in a run before the newest one. It touches no slot.
-    #[inline(always)]
-    #[tactic(auto, unfolding(crate::specs::Runs::frontier_of, crate::specs::Runs::low_of))]
-    pub fn read_newest(&self, _slots: &[Slot], from: u64) -> Option<Seen>
-        requires belongs { Belongs self.now _slots.now }
-        requires kept { low_of self.now ≤ from }
-        ensures seen { IfSome result (Shows self.now _slots.now from) }
-    {
-        if self.frontier <= from {
-            Some(Seen::Nothing)
-        } else if self.since <= from {
-            Some(Seen::Run(self.frontier - 1, self.value))
-        } else {
-            None
-        }
-    }
-
-    /// What a read shows where that is one of the last two runs, or nothing at or past the frontier. `None` where time `from` lies in
-    /// a run before these. It calls nothing.
-    #[inline(always)]
-    #[tactic(auto, unfolding(crate::specs::Runs::frontier_of, crate::specs::Runs::low_of))]
-    pub fn read_last(&self, slots: &[Slot], from: u64) -> Option<Seen>
-        requires belongs { Belongs self.now slots.now }
-        requires kept { low_of self.now ≤ from }
-        ensures seen { IfSome result (Shows self.now slots.now from) }
-    {
-        if self.since <= from {
-            self.read_newest(slots, from)
-        } else if self.is_last(slots, from) {
-            let run = self.run_of(slots, from, self.used - 1);
-            Some(Seen::Run(run.upto, run.value))
-        } else {
-            None
-        }
-    }
-
-    /// Whether the last of the runs in the slots holds time `from`.
-    #[inline(always)]
-    fn is_last(&self, slots: &[Slot], from: u64) -> bool
-        requires belongs { Belongs self.now slots.now }
-        requires kept { low_of self.now ≤ from }
-        requires before { from < self.now.since }
-        ensures around { IsTrue result
-            → IsAround self.now slots.now from (self.now.used - 1) (self.now.used - 1) }
-        ensures some_run { 0 < self.now.used }
-    {
-        let last = self.used - 1;
-        last == 0 || self.end_of(slots, last - 1) < from
-    }
-
-    /// The run in the slots that holds time `from`, which is run `k`.
-    #[inline(always)]
-    fn run_of(&self, slots: &[Slot], from: u64, k: usize) -> Slot
-        requires belongs { Belongs self.now slots.now }
-        requires around { IsAround self.now slots.now from k k }
-        ensures reaches { from ≤ result.upto }
-        ensures before { result.upto < self.now.since }
-        ensures verdict { (t : ℕ) → from ≤ t → t ≤ result.upto
-            → verdict_at self.now slots.now t ≡ result.value }
-        ensures ends { verdict_at self.now slots.now (result.upto + 1) ≢ result.value }
-        ensures takes { runs_to (result.upto + 1) (runs_of self.now slots.now) + 1
-            ≤ runs_to from (runs_of self.now slots.now) }
-    {
-        slots[ring_index(self.oldest, k, slots.len())]
-    }
-
     /// Begins a run up to `upto` that has another verdict than the newest one.
     fn turn(&mut self, slots: &mut [Slot], upto: u64, value: bool)
         requires belongs { Belongs self.old slots.old }
@@ -339,7 +272,7 @@ impl Ring {
             }
         }
         *near = first;
-        self.run_of(slots, from, first)
+        slots[ring_index(self.oldest, first, slots.len())]
     }
 
     /// The first and the last of the runs in the slots that may hold time `from`: just run `near`, or the one after it,

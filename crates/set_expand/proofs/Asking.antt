@@ -6,11 +6,11 @@ use Rattle.std.proofs.lemmas.List.{map-append}
 use Rattle.std.proofs.lemmas.List.Elements.{All-nil, All-cons, All-head, All-tail, All-push}
 use Rattle.mltl_base.specs.Reports as output
 use Rattle.mltl_base.specs.Subformulas.{Asked}
-use Rattle.c2po_nodes.specs.declared.nodes.Plain.{Plain}
-use Rattle.c2po_nodes.specs.declared.nodes.PlainOut.{PlainOut}
-use Rattle.c2po_nodes.specs.declared.nodes.PlainOut.TheVariants as out
-use Rattle.c2po_nodes.specs.Nodes.{Tree, number, formula, trees, formula_in, IsFormula, Grows}
-use Rattle.c2po_nodes.specs.Outputs.{asked_by, NamesFormulas}
+use Rattle.c2po_ast.specs.declared.nodes.Plain.{Plain}
+use Rattle.c2po_ast.specs.declared.nodes.PlainOut.{PlainOut}
+use Rattle.c2po_ast.specs.declared.nodes.PlainOut.TheVariants as out
+use Rattle.c2po_ast.specs.Nodes.{Tree, number, formula, trees, formula_in, IsFormula, Grows}
+use Rattle.c2po_ast.specs.Outputs.{asked_by, NamesFormulas}
 use Rattle.set_expand.specs.Unfolded.{AskFor}
 
 -- no outputs

@@ -15,13 +15,13 @@ use Rattle.count_sets.specs.declared.gate.Gate.{Gate}
 use Rattle.count_sets.specs.Gates.{formula_of_gate, gate_meaning as gate_formula, gate_formulas, last_formula}
 use Rattle.count_sets.proofs.Thresholds.{least_above}
 use Rattle.count_sets.proofs.Unfolding.{formulas_push}
-use Rattle.c2po_nodes.specs.declared.nodes.Plain.{Plain}
-use Rattle.c2po_nodes.specs.declared.nodes.Plain.TheVariants as plain
-use Rattle.c2po_nodes.specs.Nodes.{Tree, number, formula, node_formula as nodes_formula_at, constant_formula, tree_of, trees, Has, Grows, IsFormula}
-use Rattle.c2po_nodes.proofs.Pushing.{formula_in_place, is_formula}
-use Rattle.c2po_nodes.proofs.Places.{at_push}
-use Rattle.c2po_unfold.specs.Values.{Value, formula_of, counted_formula}
-use Rattle.c2po_unfold.proofs.Loops.{take_next}
+use Rattle.c2po_ast.specs.declared.nodes.Plain.{Plain}
+use Rattle.c2po_ast.specs.declared.nodes.Plain.TheVariants as plain
+use Rattle.c2po_ast.specs.Nodes.{Tree, number, formula, node_formula as nodes_formula_at, constant_formula, tree_of, trees, Has, Grows, IsFormula}
+use Rattle.c2po_ast.proofs.Pushing.{formula_in_place, is_formula}
+use Rattle.c2po_ast.proofs.Places.{at_push}
+use Rattle.c2po_types.specs.Values.{Value, formula_of, counted_formula}
+use Rattle.c2po_types.proofs.Loops.{take_next}
 use Rattle.set_expand.specs.declared.names.Declared.{Declared}
 use Rattle.set_expand.specs.Nodes.{AreFormulas, HaveFormulas, IsMore}
 use Rattle.set_expand.proofs.Growing.{more_same, more_then}

@@ -4,10 +4,10 @@ use Rattle.std.proofs.Common.{Some, ℕ, List, [], ◌∷◌, ◌++◌, subst}
 use Rattle.mltl_base.specs.declared.operators.LogicOp.{LogicOp}
 use Rattle.mltl_base.specs.Formula.{Formula}
 use Rattle.mltl_base.specs.Tables.{Table}
-use Rattle.c2po_nodes.specs.declared.nodes.Plain.{Plain}
-use Rattle.c2po_nodes.specs.declared.nodes.Plain.TheVariants as plain
-use Rattle.c2po_nodes.specs.Nodes.{Grows, number, formula, node_formula, connected, tree_of, trees, Has, IsFormed}
-use Rattle.c2po_nodes.proofs.Pushing.{grows_same, grows_then, grows_push, sound_push, formula_in_place}
+use Rattle.c2po_ast.specs.declared.nodes.Plain.{Plain}
+use Rattle.c2po_ast.specs.declared.nodes.Plain.TheVariants as plain
+use Rattle.c2po_ast.specs.Nodes.{Grows, number, formula, node_formula, connected, tree_of, trees, Has, IsFormed}
+use Rattle.c2po_ast.proofs.Pushing.{grows_same, grows_then, grows_push, sound_push, formula_in_place}
 use Rattle.set_expand.specs.declared.names.Declared.{Declared}
 use Rattle.set_expand.specs.Names.{SignalsBelow}
 use Rattle.set_expand.specs.declared.names.Entry.{Entry}
@@ -15,7 +15,7 @@ use Rattle.set_expand.specs.declared.names.Entry.TheVariants as entry
 use Rattle.set_expand.specs.declared.nodes.Made.{Made}
 use Rattle.set_expand.specs.declared.nodes.Made.TheVariants as made
 use Rattle.set_expand.specs.Nodes.{HaveNodes, IsKept, IsMade, IsMore}
-use Rattle.c2po_unfold.specs.Values.{Value}
+use Rattle.c2po_types.specs.Values.{Value}
 
 -- what is kept stays where nodes get more
 made_later : (old new : List Plain) (m : Made) (v : Value) → Grows old new → IsMade old m v → IsMade new m v

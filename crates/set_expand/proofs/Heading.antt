@@ -5,9 +5,9 @@ use Rattle.mltl_base.specs.Tables.{Table}
 use Rattle.c2po_ast.specs.declared.tree.Expr.{Expr}
 use Rattle.c2po_ast.specs.Shape as tree
 use Rattle.c2po_ast.specs.Shape.{Shape, shape}
-use Rattle.c2po_nodes.specs.declared.nodes.Plain.{Plain}
-use Rattle.c2po_unfold.specs.Values.{members, picked}
-use Rattle.c2po_unfold.specs.Environment.{Env, signal_value, value_of}
+use Rattle.c2po_ast.specs.declared.nodes.Plain.{Plain}
+use Rattle.c2po_types.specs.Values.{members, picked}
+use Rattle.c2po_types.specs.Environment.{Env, signal_value, value_of}
 use Rattle.set_expand.specs.declared.names.Declared.{Declared}
 use Rattle.set_expand.specs.declared.nodes.Made.{Made}
 use Rattle.set_expand.specs.declared.scope.Scope.{Scope}
@@ -17,7 +17,8 @@ use Rattle.set_expand.specs.declared.scope.Named.{Named}
 use Rattle.set_expand.specs.Heads.{IsHead, NamedBelow, env_in, head_value, is_build, leads_on, named_value}
 use Rattle.set_expand.specs.Names.{SignalsBelow}
 use Rattle.set_expand.specs.Nodes.{HaveNodes, NamedKept}
-use Rattle.set_expand.proofs.Members.{leaf_members, leaf_picked, values_count}
+use Rattle.c2po_types.proofs.Members.{values_count}
+use Rattle.c2po_types.proofs.StoredParts.{leaf_members, leaf_picked}
 
 module _ (names : Table Declared) where
   -- a set has as many members as its expression

@@ -6,11 +6,11 @@ use Rattle.mltl_base.specs.declared.operators.CountOp.{CountOp}
 use Rattle.mltl_base.specs.Formula.{falsity}
 use Rattle.mltl_base.specs.Tables.{Table}
 use Rattle.count_sets.specs.Counting.{counting}
-use Rattle.c2po_nodes.specs.declared.nodes.Plain.{Plain}
-use Rattle.c2po_nodes.specs.declared.nodes.Plain.TheVariants as plain
-use Rattle.c2po_nodes.specs.Nodes.{Has, formula, tree_of, trees}
-use Rattle.c2po_unfold.specs.Values.{Value, connected_all, counted, counted_formula, formula_of}
-use Rattle.c2po_unfold.proofs.Loops.{formulas_back, joined_one, joined_next}
+use Rattle.c2po_ast.specs.declared.nodes.Plain.{Plain}
+use Rattle.c2po_ast.specs.declared.nodes.Plain.TheVariants as plain
+use Rattle.c2po_ast.specs.Nodes.{Has, formula, tree_of, trees}
+use Rattle.c2po_types.specs.Values.{Value, connected_all, counted, counted_formula, formula_of}
+use Rattle.c2po_types.proofs.Loops.{formulas_back, joined_one, joined_next}
 use Rattle.set_expand.specs.declared.names.Declared.{Declared}
 use Rattle.set_expand.specs.declared.nodes.Made.TheVariants as made
 use Rattle.set_expand.specs.Nodes.{IsMade, IsMore}

@@ -11,7 +11,7 @@ use Rattle.mltl_base.specs.declared.operators.CountOp.{CountOp}
 use Rattle.mltl_base.specs.declared.operators.LogicOp.{LogicOp}
 use Rattle.c2po_ast.specs.ItemShape.{BodyShape, ItemShape, structure, input, define, formula, contract}
 use Rattle.mltl_base.specs.Tables.{is_named}
-use Rattle.c2po_nodes.specs.Faults.{formula_fault}
+use Rattle.c2po_ast.specs.Faults.{formula_fault}
 use Rattle.c2po_types.specs.declared.fault.TypeFault.{TypeFault}
 use Rattle.c2po_types.specs.declared.fault.TypeFault.TheVariants.{Tense, Twice, Wide}
 use Rattle.c2po_types.specs.Checking.{◌>>=◌, fault_of}
@@ -22,11 +22,11 @@ use Rattle.c2po_types.specs.Declares.{after_others, declarations_of, total_weigh
 use Rattle.c2po_types.specs.FirstFault.{earliest, fault_if, fault_unless, label_fault, range_fault, is_mixed, body_faults, item_faults, first_fault}
 use Rattle.c2po_types.specs.Outputs.{Place, before, place_after, place_by}
 use Rattle.c2po_types.proofs.Found.{earliest-append}
-use Rattle.c2po_unfold.specs.Environment.{value_of}
-use Rattle.c2po_unfold.specs.Faults.{value_fault}
-use Rattle.c2po_unfold.specs.Values.{Value, connected_all, counted, formula_of}
-use Rattle.c2po_unfold.specs.Weights.{counting_weight, weight}
-use Rattle.c2po_unfold.proofs.Loops.{bodies_back, sum_within, weights_back}
+use Rattle.c2po_types.specs.Environment.{value_of}
+use Rattle.c2po_types.specs.Faults.{value_fault}
+use Rattle.c2po_types.specs.Values.{Value, connected_all, counted, formula_of}
+use Rattle.c2po_types.specs.Weights.{counting_weight, weight}
+use Rattle.c2po_types.proofs.Loops.{bodies_back, sum_within, weights_back}
 use Rattle.set_expand.specs.Light.{AreLight, IsLight, IsLightItem}
 
 -- neither of two faults

@@ -10,12 +10,12 @@ use Rattle.std.proofs.lemmas.List.Sums.{fold_push}
 use Rattle.std.proofs.lemmas.Option.{get_or_from_slice_get, slice_get-get_or}
 use Rattle.std.proofs.lemmas.Slice.Eq.{bytes_eq-Decides}
 use Rattle.mltl_base.specs.Tables.{Table, entry_of, is_named}
-use Rattle.c2po_nodes.specs.declared.nodes.Plain.{Plain}
-use Rattle.c2po_nodes.proofs.Places.{get_left, get_last}
+use Rattle.c2po_ast.specs.declared.nodes.Plain.{Plain}
+use Rattle.c2po_ast.proofs.Places.{get_left, get_last}
 use Rattle.c2po_ast.specs.Shape.{shape}
 use Rattle.c2po_ast.specs.ItemShape.{field_shape}
-use Rattle.c2po_unfold.specs.Environment.{Env, Known, nothing, fields, value, no_names, or_else, declare, value_of}
-use Rattle.c2po_unfold.proofs.Declaring.{or_entry, entry_push}
+use Rattle.c2po_types.specs.Environment.{Env, Known, nothing, fields, value, no_names, or_else, declare, value_of}
+use Rattle.c2po_types.proofs.Summarizing.{or_entry, entry_push}
 use Rattle.set_expand.specs.declared.names.Entry.{Entry}
 use Rattle.set_expand.specs.declared.names.Entry.TheVariants as entry
 use Rattle.set_expand.specs.declared.names.Declared.{Declared}

@@ -16,10 +16,10 @@ use Rattle.mltl_base.specs.Atoms.{Term}
 use Rattle.mltl_base.specs.Formula.{Formula}
 use Rattle.mltl_base.specs.Kinds.{ReadsWholes, AtomReadsKinds, ReadsKinds}
 use Rattle.c2po_ast.specs.Shape.{Shape}
-use Rattle.c2po_nodes.specs.Nodes.{constant_formula, arithmetic, comparison, connected, windowed, ranged}
-use Rattle.c2po_unfold.specs.Values.{Value, formula_of, interval}
-use Rattle.c2po_unfold.specs.Environment.{Env, Known, nothing, declare, value_of}
-use Rattle.c2po_unfold.proofs.ValueWalk.{Any, EnvHas, Keeps, KnownHas, ValueHas, any_constants, declare_has, formula_has, nothing_has, value_has}
+use Rattle.c2po_ast.specs.Nodes.{constant_formula, arithmetic, comparison, connected, windowed, ranged}
+use Rattle.c2po_types.specs.Values.{Value, formula_of, interval}
+use Rattle.c2po_types.specs.Environment.{Env, Known, nothing, declare, value_of}
+use Rattle.c2po_types.proofs.ValueWalk.{Any, EnvHas, Keeps, KnownHas, ValueHas, any_constants, declare_has, formula_has, nothing_has, value_has}
 
 module _ (kinds : List Bool) where
   -- a value, and the meanings of names, read signals by their kinds

@@ -8,8 +8,8 @@ use Rattle.c2po_ast.specs.ItemShape.{BodyShape, ItemShape, structure, input, def
 use Rattle.mltl_base.specs.declared.signal.Signal.{Signal}
 use Rattle.c2po_types.specs.Outputs.{with_signals}
 use Rattle.c2po_types.specs.Signals.{body_signals, signals_of}
-use Rattle.c2po_unfold.specs.Values.{formula_of}
-use Rattle.c2po_unfold.specs.Environment.{Env, declare, fields, value, signal_value, value_of}
+use Rattle.c2po_types.specs.Values.{formula_of}
+use Rattle.c2po_types.specs.Environment.{Env, declare, fields, value, signal_value, value_of}
 use Rattle.mltl_base.specs.Kinds.{ReadsKinds, ReadsSignals, kinds_of}
 use Rattle.set_expand.specs.Outputs.{Place, before, values_after, asked_at, place_after, asked_from, outputs_of}
 use Rattle.set_expand.proofs.ReadValues.{ValueReads, EnvReads, formula_reads, nothing_reads, declare_reads, value_reads}

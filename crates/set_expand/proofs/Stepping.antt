@@ -12,13 +12,13 @@ use Rattle.mltl_base.specs.Formula.{Formula}
 use Rattle.mltl_base.specs.Reports as output
 use Rattle.mltl_base.specs.Subformulas.{Asked, IsTensed}
 use Rattle.mltl_base.specs.Tables.{Table}
-use Rattle.c2po_nodes.specs.declared.nodes.Plain.{Plain}
-use Rattle.c2po_nodes.specs.declared.nodes.Plain.TheVariants.{Flag, Signal as Column}
-use Rattle.c2po_nodes.specs.declared.nodes.PlainOut.{PlainOut}
-use Rattle.c2po_nodes.specs.declared.nodes.PlainOut.TheVariants as out
-use Rattle.c2po_nodes.specs.Nodes.{Tree, formula, node_formula, trees, Has, IsFormed, AreSound}
-use Rattle.c2po_nodes.specs.Outputs.{NamesFormulas, IsSound, asked_by}
-use Rattle.c2po_nodes.proofs.Pushing.{formula_in_place, is_formula, sound_nil}
+use Rattle.c2po_ast.specs.declared.nodes.Plain.{Plain}
+use Rattle.c2po_ast.specs.declared.nodes.Plain.TheVariants.{Flag, Signal as Column}
+use Rattle.c2po_ast.specs.declared.nodes.PlainOut.{PlainOut}
+use Rattle.c2po_ast.specs.declared.nodes.PlainOut.TheVariants as out
+use Rattle.c2po_ast.specs.Nodes.{Tree, formula, node_formula, trees, Has, IsFormed, AreSound}
+use Rattle.c2po_ast.specs.Outputs.{NamesFormulas, IsSound, asked_by}
+use Rattle.c2po_ast.proofs.Pushing.{formula_in_place, is_formula, sound_nil}
 use Rattle.c2po_ast.specs.declared.item.Item.{Item}
 use Rattle.c2po_ast.specs.Shape.{Shape}
 use Rattle.c2po_ast.specs.ItemShape as item
@@ -29,8 +29,8 @@ use Rattle.c2po_types.specs.Signals.{body_signals, signals_of}
 use Rattle.c2po_types.proofs.Faultless.{faultless-tensed}
 use Rattle.c2po_types.proofs.OwnNames.{few_signals}
 use Rattle.c2po_types.proofs.Turns.{drop-first}
-use Rattle.c2po_unfold.specs.Environment.{Env, declare, value, signal_value, value_of}
-use Rattle.c2po_unfold.specs.Values.{formula_of}
+use Rattle.c2po_types.specs.Environment.{Env, declare, value, signal_value, value_of}
+use Rattle.c2po_types.specs.Values.{formula_of}
 use Rattle.set_expand.specs.declared.items.Unfolded.{Unfolded}
 use Rattle.set_expand.specs.declared.names.Declared.{Declared}
 use Rattle.set_expand.specs.declared.names.Entry.{Entry}

@@ -7,7 +7,7 @@ use Rattle.mltl_base.specs.Formula.{Formula}
 use Rattle.mltl_base.specs.Meaning.{count, sat}
 use Rattle.mltl_base.specs.Subformulas.{Asked, formulas_of}
 use Rattle.count_sets.specs.Counting.{compares, counting}
-use Rattle.c2po_unfold.specs.Values.{counted_formula}
+use Rattle.c2po_types.specs.Values.{counted_formula}
 
 -- a counting quantifier holds where the number of its bodies that hold compares as it says, equal ones each
 abbrev pub Counts : Formula → Type 0

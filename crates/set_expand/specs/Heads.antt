@@ -5,10 +5,10 @@ use Rattle.mltl_base.specs.Tables.{Table}
 use Rattle.c2po_ast.specs.Shape as tree
 use Rattle.c2po_ast.specs.Shape.{Shape, shape, shapes}
 use Rattle.c2po_ast.specs.ItemShape.{field_shape}
-use Rattle.c2po_unfold.specs.Heads.{is_operator}
-use Rattle.c2po_unfold.specs.Values.{Value, truth_value, built, grouped}
-use Rattle.c2po_unfold.specs.Environment.{Env, Known, nothing, fields, value, bind, signal_value, value_in, value_of}
-use Rattle.c2po_unfold.specs.Environment.{values_of}
+use Rattle.c2po_types.specs.Heads.{is_operator}
+use Rattle.c2po_types.specs.Values.{Value, truth_value, built, grouped}
+use Rattle.c2po_types.specs.Environment.{Env, Known, nothing, fields, value, bind, signal_value, value_in, value_of}
+use Rattle.c2po_types.specs.Environment.{values_of}
 use Rattle.set_expand.specs.declared.names.Declared.{Declared}
 use Rattle.set_expand.specs.declared.scope.Scope.{Scope, First, Member'}
 use Rattle.set_expand.specs.declared.scope.Named.{Named}

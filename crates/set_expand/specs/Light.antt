@@ -4,9 +4,9 @@ use Rattle.std.specs.Prelude.{◌≤◌, List, [], ◌∷◌, ⊤}
 use Rattle.mltl_base.specs.declared.limits.TheConstants.{MAX_WEIGHT}
 use Rattle.c2po_ast.specs.ItemShape.{BodyShape, ItemShape, structure, input, define, formula, contract}
 use Rattle.c2po_types.specs.Outputs.{Place, place_after}
-use Rattle.c2po_unfold.specs.Environment.{Env, value_of}
-use Rattle.c2po_unfold.specs.Values.{Value}
-use Rattle.c2po_unfold.specs.Weights.{weight}
+use Rattle.c2po_types.specs.Environment.{Env, value_of}
+use Rattle.c2po_types.specs.Values.{Value}
+use Rattle.c2po_types.specs.Weights.{weight}
 
 -- a value weighs no more than the limit
 abbrev pub IsLight : Value → Type 0

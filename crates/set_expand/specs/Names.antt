@@ -7,7 +7,7 @@ use Rattle.std.specs.Prelude.{get_or, slice_get, if◌then◌else◌, ⊤}
 use Rattle.mltl_base.specs.Tables.{Table, entry_of, is_named}
 use Rattle.c2po_ast.specs.Shape.{shape}
 use Rattle.c2po_ast.specs.ItemShape.{field_shape}
-use Rattle.c2po_unfold.specs.Environment.{Env, Known, nothing, fields, value, no_names, declare, signal_value, value_of}
+use Rattle.c2po_types.specs.Environment.{Env, Known, nothing, fields, value, no_names, declare, signal_value, value_of}
 use Rattle.set_expand.specs.declared.names.Entry.{Entry}
 use Rattle.set_expand.specs.declared.names.Entry.TheVariants as entry
 use Rattle.set_expand.specs.declared.names.Declared.{Declared}

@@ -5,11 +5,11 @@ use Rattle.mltl_base.specs.Atoms.{Term}
 use Rattle.mltl_base.specs.Formula.{Formula}
 use Rattle.mltl_base.specs.Tables.{Table, entry_of}
 use Rattle.c2po_ast.specs.Shape.{shape}
-use Rattle.c2po_nodes.specs.declared.nodes.Plain.{Plain}
-use Rattle.c2po_nodes.specs.declared.nodes.Plain.TheVariants as plain
-use Rattle.c2po_nodes.specs.Nodes.{AreSound, Grows, Has, IsFormula, formula, number, trees}
-use Rattle.c2po_unfold.specs.Environment.{value_of}
-use Rattle.c2po_unfold.specs.Values.{Value, tree_in}
+use Rattle.c2po_ast.specs.declared.nodes.Plain.{Plain}
+use Rattle.c2po_ast.specs.declared.nodes.Plain.TheVariants as plain
+use Rattle.c2po_ast.specs.Nodes.{AreSound, Grows, Has, IsFormula, formula, number, trees}
+use Rattle.c2po_types.specs.Environment.{value_of}
+use Rattle.c2po_types.specs.Values.{Value, tree_in}
 use Rattle.set_expand.specs.declared.names.Entry.{Entry}
 use Rattle.set_expand.specs.declared.names.Entry.TheVariants as entry
 use Rattle.set_expand.specs.declared.scope.Named.{Named}

@@ -2,10 +2,10 @@
 
 use Rattle.std.specs.Prelude.{◌≡◌, ◌+◌, List, ◌++◌, Result, length, map, All, IfOk}
 use Rattle.mltl_base.specs.Subformulas.{Asked}
-use Rattle.c2po_nodes.specs.declared.nodes.Plain.{Plain}
-use Rattle.c2po_nodes.specs.declared.nodes.PlainOut.{PlainOut}
-use Rattle.c2po_nodes.specs.Nodes.{trees, AreSound}
-use Rattle.c2po_nodes.specs.Outputs.{asked_by, NamesFormulas}
+use Rattle.c2po_ast.specs.declared.nodes.Plain.{Plain}
+use Rattle.c2po_ast.specs.declared.nodes.PlainOut.{PlainOut}
+use Rattle.c2po_ast.specs.Nodes.{trees, AreSound}
+use Rattle.c2po_ast.specs.Outputs.{asked_by, NamesFormulas}
 use Rattle.c2po_ast.specs.ItemShape.{BodyShape, ItemShape}
 use Rattle.c2po_types.specs.Outputs.{Place, place_after, asked_at, asked_from, outputs_of}
 use Rattle.c2po_types.specs.Signals.{signals_of}

@@ -5,13 +5,13 @@ ghost use Rattle.mltl_base.specs.declared.limits.TheConstants.{MAX_WEIGHT};
 ghost use Rattle.mltl_base.specs.Formula.{Formula};
 ghost use Rattle.count_sets.specs.Counting.{Counted, counting};
 ghost use Rattle.count_sets.specs.Gates.{IsNetwork, IsOver, gate_meaning, last_formula};
-ghost use Rattle.c2po_nodes.specs.Nodes.{Has, IsFormula, formula, trees};
-ghost use Rattle.c2po_unfold.specs.Values.{counted_formula};
-ghost use Rattle.c2po_unfold.specs.Weights.{counting_weight};
+ghost use Rattle.c2po_ast.specs.Nodes.{Has, IsFormula, formula, trees};
+ghost use Rattle.c2po_types.specs.Values.{counted_formula};
+ghost use Rattle.c2po_types.specs.Weights.{counting_weight};
 ghost use Rattle.set_expand.specs.Nodes.{AreFormulas, HaveFormulas, IsMore};
 
 use crate::names::Names;
-use c2po_nodes::{NodeList, Plain};
+use c2po_ast::{NodeList, Plain};
 use count_sets::{Gate, network};
 use mltl_base::{CountOp, LogicOp};
 use std::alloc::{AllocError, Global};

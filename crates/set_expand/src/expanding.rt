@@ -8,10 +8,10 @@ ghost use Rattle.mltl_base.specs.Meaning.{count, sat};
 ghost use Rattle.c2po_ast.specs.ItemShape.{item_shape, spec_shape};
 ghost use Rattle.c2po_types.specs.FirstFault.{first_fault};
 ghost use Rattle.c2po_types.specs.Signals.{signals_of};
-ghost use Rattle.c2po_unfold.specs.Counting.{compares, counting};
-ghost use Rattle.c2po_nodes.specs.Faults.{HasRanges};
-ghost use Rattle.c2po_nodes.specs.Outputs.{IsSound, asked};
-ghost use Rattle.c2po_unfold.specs.Values.{counted_formula};
+ghost use Rattle.c2po_types.specs.Counting.{compares, counting};
+ghost use Rattle.c2po_ast.specs.Faults.{HasRanges};
+ghost use Rattle.c2po_ast.specs.Outputs.{IsSound, asked};
+ghost use Rattle.c2po_types.specs.Values.{counted_formula};
 ghost use Rattle.mltl_base.specs.Kinds.{ReadsSignals, kinds_of};
 ghost use Rattle.set_expand.specs.Counts.{CountsBodies};
 ghost use Rattle.set_expand.specs.Outputs.{HasPlainName, outputs_of};
@@ -19,8 +19,7 @@ ghost use Rattle.set_expand.specs.Unfolded.{Leaves};
 
 use crate::items::Unfolded;
 use crate::plan::{deep_items, is_set};
-use c2po_ast::Item;
-use c2po_nodes::Expanded;
+use c2po_ast::{Expanded, Item};
 use c2po_types::TypedSpec;
 use std::alloc::{AllocError, Global};
 

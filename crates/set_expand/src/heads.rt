@@ -3,11 +3,11 @@
 ghost use Rattle.std.specs.Prelude.{◌≡◌, ◌+◌, ℕ, true, false, List as Seq, Some, None, length, position, slice_get, IfOk, IfSome};
 ghost use Rattle.std.specs.Str.{bytes_eq};
 ghost use Rattle.c2po_ast.specs.Shape.{shape, shapes};
-ghost use Rattle.c2po_unfold.specs.Environment.{Env, bind, fields_in, value_of, values_of};
-ghost use Rattle.c2po_unfold.specs.Values.{Value, built, members, picked};
+ghost use Rattle.c2po_types.specs.Environment.{Env, bind, fields_in, value_of, values_of};
+ghost use Rattle.c2po_types.specs.Values.{Value, built, members, picked};
 ghost use Rattle.set_expand.specs.Heads.{HeadBelow, IsHead, IsReached, NamedBelow, env_in, head_value, is_build, leads_on, named_meaning, named_value};
-ghost use Rattle.c2po_nodes.specs.declared.nodes.Plain.{Plain};
-ghost use Rattle.c2po_unfold.specs.Heads.{is_operator};
+ghost use Rattle.c2po_ast.specs.declared.nodes.Plain.{Plain};
+ghost use Rattle.c2po_types.specs.Heads.{is_operator};
 ghost use Rattle.set_expand.specs.Names.{SignalsBelow};
 ghost use Rattle.set_expand.specs.Nodes.{HaveNodes, HeadKept, NamedKept};
 

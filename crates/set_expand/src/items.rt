@@ -4,22 +4,21 @@ ghost use Rattle.std.specs.Prelude.{◌≡◌, ◌≤◌, ◌++◌, ◌+◌, [],
 ghost use Rattle.mltl_base.specs.declared.limits.TheConstants.{MAX_SIGNALS};
 ghost use Rattle.c2po_ast.specs.Shape.{shape};
 ghost use Rattle.c2po_ast.specs.ItemShape.{body_shape, contract, define, field_shape, formula, input, structure, type_shape};
-ghost use Rattle.c2po_nodes.specs.Nodes.{Has, formula as formula_tree};
+ghost use Rattle.c2po_ast.specs.Nodes.{Has, formula as formula_tree};
 ghost use Rattle.c2po_types.specs.Outputs.{before, with_signals};
 ghost use Rattle.c2po_types.specs.Signals.{body_signals, is_bool};
-ghost use Rattle.c2po_unfold.specs.Environment.{value_of};
-ghost use Rattle.c2po_unfold.specs.Values.{formula_of};
+ghost use Rattle.c2po_types.specs.Environment.{value_of};
+ghost use Rattle.c2po_types.specs.Values.{formula_of};
 ghost use Rattle.set_expand.specs.Light.{IsLight, IsLightItem};
 ghost use Rattle.set_expand.specs.Names.{SignalsBelow, env_now};
-ghost use Rattle.c2po_nodes.specs.declared.nodes.Plain.{Plain};
+ghost use Rattle.c2po_ast.specs.declared.nodes.Plain.{Plain};
 ghost use Rattle.set_expand.specs.Nodes.{HaveNodes, IsMore, MadeAs};
 ghost use Rattle.set_expand.specs.Unfolded.{Puts, StandsAt};
 
 use crate::names::Names;
 use crate::nodes::Made;
 use crate::scope::{Scope, Site};
-use c2po_ast::{Body, Expr, FieldDecl, Item, TypeTree};
-use c2po_nodes::{NodeList, PlainOut};
+use c2po_ast::{Body, Expr, FieldDecl, Item, NodeList, PlainOut, TypeTree};
 use c2po_types::names::output_name;
 use mltl_base::{Engine, List, Name};
 use std::alloc::{AllocError, Global};

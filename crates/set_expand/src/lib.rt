@@ -20,5 +20,5 @@ pub mod nodes;
 pub mod plan;
 pub mod scope;
 
-pub use c2po_nodes::{Expanded, Plain, PlainOut};
+pub use c2po_ast::{Expanded, Plain, PlainOut};
 pub use expanding::expand;

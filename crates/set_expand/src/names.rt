@@ -4,8 +4,8 @@ ghost use Rattle.std.specs.Prelude.{◌≡◌, ◌<◌, ℕ, List as Seq, [], le
 ghost use Rattle.std.specs.Str.{bytes_eq};
 ghost use Rattle.c2po_ast.specs.Shape.{shape};
 ghost use Rattle.c2po_ast.specs.ItemShape.{field_shape};
-ghost use Rattle.c2po_unfold.specs.Environment.{declare, fields, fields_in, no_names, signal_value, value, value_of};
-ghost use Rattle.c2po_nodes.specs.declared.nodes.Plain.{Plain};
+ghost use Rattle.c2po_types.specs.Environment.{declare, fields, fields_in, no_names, signal_value, value, value_of};
+ghost use Rattle.c2po_ast.specs.declared.nodes.Plain.{Plain};
 ghost use Rattle.set_expand.specs.Heads.{NamedBelow, named_meaning};
 ghost use Rattle.set_expand.specs.Nodes.{HaveNodes, IsKept, MadeAs, NamedKept};
 ghost use Rattle.set_expand.specs.Names.{EntryBelow, HasFields, IsEarly, SignalsBelow, env_now, env_of, meaning, with_name};
@@ -13,8 +13,8 @@ ghost use Rattle.set_expand.specs.Names.{EntryBelow, HasFields, IsEarly, Signals
 use crate::nodes::Made;
 use crate::scope::{Named, Scope};
 use c2po_ast::{Expr, FieldDecl, field_names};
-use c2po_unfold::fields::Fields;
-use c2po_unfold::meanings::Meanings;
+use c2po_types::fields::Fields;
+use c2po_types::meanings::Meanings;
 use mltl_base::{List, Name};
 use std::alloc::{AllocError, Global};
 use std::marker::Model;

@@ -1,13 +1,13 @@
 //! Nodes of operators over the nodes of their operands.
 
 ghost use Rattle.std.specs.Prelude.{◌≡◌, ℕ, IfOk, OnOk};
-ghost use Rattle.c2po_nodes.specs.Nodes.{Has, IsFormed, tree_of, trees};
-ghost use Rattle.c2po_unfold.specs.Values.{interval};
+ghost use Rattle.c2po_ast.specs.Nodes.{Has, IsFormed, tree_of, trees};
+ghost use Rattle.c2po_types.specs.Values.{interval};
 ghost use Rattle.set_expand.specs.Names.{SignalsBelow};
 ghost use Rattle.set_expand.specs.Nodes.{IsMore, signal_node};
 
 use crate::names::Names;
-use c2po_nodes::{NodeList, Plain};
+use c2po_ast::{NodeList, Plain};
 use mltl_base::Interval;
 use mltl_base::limits::MAX_BOUND;
 use std::alloc::AllocError;

@@ -12,7 +12,7 @@ use Rattle.mltl_base.specs.Reports.{Output, formula, contract}
 use Rattle.mltl_base.specs.Subformulas.{same_expression, listed, add_new, add_terms, add_operands, add_expressions, Asked, cores_of_output, formulas_of, all_cores, bz_expressions, bz_instruction, bz_list}
 use Rattle.mltl_base.proofs.Unfolding.{Each, each_from_all, all_push}
 use Rattle.mltl_base.proofs.Members.{all_from_each, each_append}
-use Rattle.c2po_nodes.specs.Outputs.{asked_over, output_over}
+use Rattle.c2po_ast.specs.Outputs.{asked_over, output_over}
 use Rattle.mltl_simplify.specs.Outputs.{simple_asked, simple_outputs}
 use Rattle.mltl_simplify.specs.Simplify.{simp}
 use Rattle.mltl_simplify.proofs.Ending.{kept_by}

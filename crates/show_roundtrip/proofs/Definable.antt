@@ -11,13 +11,13 @@ use Rattle.mltl_base.specs.Formula as full
 use Rattle.mltl_base.specs.Formula.{Formula, falsity, atom, negation, conjunction, disjunction, implication, equivalence, finally, globally, until, release, once, historically, since, Core, plain, formula_over}
 use Rattle.mltl_base.specs.Programs.{Expression, whole, truth, expressions, cores_of}
 use Rattle.mltl_base.specs.Ranges.{NoRange}
-use Rattle.c2po_nodes.specs.Nodes.{number, formula}
-use Rattle.c2po_nodes.specs.Faults.{why_none, or_later, term_fault, atom_fault, formula_fault}
-use Rattle.c2po_nodes.specs.Tenses.{has_past, has_future}
+use Rattle.c2po_ast.specs.Nodes.{number, formula}
+use Rattle.c2po_ast.specs.Faults.{why_none, or_later, term_fault, atom_fault, formula_fault}
+use Rattle.c2po_ast.specs.Tenses.{has_past, has_future}
 use Rattle.c2po_compile.proofs.Reading.{range_over}
-use Rattle.c2po_unfold.specs.Values.{Value}
-use Rattle.c2po_unfold.specs.Weights.{weight}
-use Rattle.c2po_unfold.specs.Faults.{value_fault}
+use Rattle.c2po_types.specs.Values.{Value}
+use Rattle.c2po_types.specs.Weights.{weight}
+use Rattle.c2po_types.specs.Faults.{value_fault}
 use Rattle.obs_show.specs.Weight.{formula_weight}
 use Rattle.obs_show.specs.Weighing.{expression_weight}
 use Rattle.show_roundtrip.proofs.Values.{SaysWhole, SaysFormula, Says, tree_faults}

@@ -18,14 +18,14 @@ use Rattle.mltl_base.specs.Formula as full
 use Rattle.mltl_base.specs.Formula.{Formula, Core, ctrue, catom, cnot, cand, cuntil, csince, plain, formula_over}
 use Rattle.mltl_base.specs.Programs.{Expression, whole, truth, atom_of, atoms, expressions, core_at, op_formula, past_formula_of, formulas_after, past_formulas_after, cores_of}
 use Rattle.obs_verify.specs.WellFormed.{is_truth, is_window, has_future_operands, has_future_window, has_past_operands, has_past_window}
-use Rattle.c2po_unfold.specs.Values.{truth_value, interval}
-use Rattle.c2po_unfold.specs.Environment.{Env, value_of}
+use Rattle.c2po_types.specs.Values.{truth_value, interval}
+use Rattle.c2po_types.specs.Environment.{Env, value_of}
 use Rattle.c2po_types.specs.Outputs.{Place, place_after}
 use Rattle.obs_show.specs.Lines.{Reference, always, named, Form, Line, define}
 use Rattle.obs_show.specs.Naming.{ft_name, pt_name, bz_reference, ft_called, ft_reference, pt_called, pt_reference}
 use Rattle.obs_show.specs.Text.{ft_form, pt_form, ft_line, pt_line}
 use Rattle.obs_show.specs.Weight.{formula_weight}
-use Rattle.c2po_nodes.proofs.Places.{get_left}
+use Rattle.c2po_ast.proofs.Places.{get_left}
 use Rattle.show_roundtrip.specs.Said.{form_shape, line_body}
 use Rattle.show_roundtrip.specs.Unfolded.{AreNew}
 use Rattle.show_roundtrip.proofs.Passing.{form_value}

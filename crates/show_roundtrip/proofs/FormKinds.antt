@@ -9,7 +9,7 @@ use Rattle.mltl_base.specs.declared.operators.ArithOp.{ArithOp}
 use Rattle.mltl_base.specs.declared.operators.BetweenOp.{BetweenOp}
 use Rattle.mltl_base.specs.declared.operators.CompareOp.{CompareOp}
 use Rattle.mltl_base.specs.declared.operators.LogicOp.{LogicOp}
-use Rattle.c2po_unfold.specs.Tables.{Table, entry_of, is_named}
+use Rattle.c2po_types.specs.Tables.{Table, entry_of, is_named}
 use Rattle.c2po_types.specs.declared.kind.Kind.{Kind}
 use Rattle.c2po_types.specs.declared.kind.Meaning.{Meaning}
 use Rattle.c2po_types.specs.declared.kind.Meaning.TheVariants.{Value}

@@ -9,7 +9,7 @@ use Rattle.mltl_base.specs.declared.limits.TheConstants.{MAX_WEIGHT, MAX_SIGNALS
 use Rattle.mltl_base.specs.declared.interval.Engine.{Engine}
 use Rattle.mltl_base.specs.declared.signal.Signal.{Signal}
 use Rattle.mltl_base.specs.Ranges.{NoRange}
-use Rattle.c2po_unfold.specs.Tables.{Table, entry_of, is_named}
+use Rattle.c2po_types.specs.Tables.{Table, entry_of, is_named}
 use Rattle.c2po_ast.specs.ItemShape.{type_named}
 use Rattle.c2po_types.specs.declared.kind.Kind.{Kind}
 use Rattle.c2po_types.specs.declared.kind.Meaning.{Meaning}
@@ -20,11 +20,11 @@ use Rattle.c2po_types.specs.Checking.{Checked, ◌>>=◌, in_turn}
 use Rattle.c2po_types.specs.Items.{Labels, new, with_signal, with_input, with_value, with_label, define_kind, formula_kind, contract_kind, signal_kind}
 use Rattle.c2po_types.specs.FirstFault.{first_fault, is_mixed}
 use Rattle.c2po_types.specs.Stepwise.{State, start, when_ranged, one_tense, defined, with_out, item_step, checked, define_step, input_step, formula_step, contract_step}
-use Rattle.c2po_nodes.specs.Faults.{formula_fault, or_later}
-use Rattle.c2po_unfold.specs.Values as values
-use Rattle.c2po_unfold.specs.Weights.{weight}
-use Rattle.c2po_unfold.specs.Faults.{value_fault}
-use Rattle.c2po_unfold.specs.Environment.{Env, Known, nothing, value, declare, or_else, signal_value, value_of}
+use Rattle.c2po_ast.specs.Faults.{formula_fault, or_later}
+use Rattle.c2po_types.specs.Values as values
+use Rattle.c2po_types.specs.Weights.{weight}
+use Rattle.c2po_types.specs.Faults.{value_fault}
+use Rattle.c2po_types.specs.Environment.{Env, Known, nothing, value, declare, or_else, signal_value, value_of}
 use Rattle.c2po_types.specs.Outputs.{Place, before, place_after, with_signals}
 use Rattle.c2po_types.proofs.Ruling.{all-checked}
 use Rattle.obs_show.specs.Lines.{Reference, Form, Line, input, define, formula, contract}

@@ -28,7 +28,7 @@ use Rattle.c2po_parse.specs.Tokens.{left_level, right_level}
 use Rattle.c2po_ast.specs.Parts.{joined, prefixed, enclosed, quantified, leaf}
 use Rattle.c2po_parse.specs.Fronts.{infix_level, prefix_level, closing, past, name_at, interval_at, named_or_called, bound_start, word_start, word_quantifier, sign_start, start_in, start_at, ◌>>=◌}
 use Rattle.c2po_parse.specs.Splitting.{parsed_tree}
-use Rattle.c2po_unfold.proofs.ValueWalk.{AllConstantsHave, ConstantsHave}
+use Rattle.c2po_types.proofs.ValueWalk.{AllConstantsHave, ConstantsHave}
 use Rattle.c2po_parse.proofs.Words.{words-head, words-tail, words-left, words-right}
 use Rattle.show_roundtrip.proofs.GoodWords.{GoodWords}
 use Rattle.c2po_parse.proofs.Starts.{IsStart}

@@ -14,17 +14,17 @@ use Rattle.mltl_base.specs.Programs.{out_name as name_in_program}
 use Rattle.mltl_base.specs.Subformulas.{Asked}
 use Rattle.mltl_base.proofs.Graphs.{program_names}
 use Rattle.mltl_simplify.specs.Outputs.{simple_outputs}
-use Rattle.c2po_nodes.specs.Outputs.{asked_over}
+use Rattle.c2po_ast.specs.Outputs.{asked_over}
 use Rattle.c2po_compile.specs.Images.{IsImageOf}
-use Rattle.c2po_unfold.specs.Tables.{entry_of, is_named}
+use Rattle.c2po_types.specs.Tables.{entry_of, is_named}
 use Rattle.c2po_ast.specs.ItemShape as item
 use Rattle.c2po_ast.specs.ItemShape.{BodyShape, ItemShape}
 use Rattle.c2po_types.specs.declared.fault.TypeFault.TheVariants as fault
 use Rattle.c2po_types.specs.Checking.{Checked, in_turn}
 use Rattle.c2po_types.specs.Items.{Labels, with_struct, with_input, define_kind, with_label, formula_kind, contract_kind}
 use Rattle.mltl_base.specs.Ranges.{NoRange}
-use Rattle.c2po_unfold.specs.Environment.{value_of}
-use Rattle.c2po_unfold.specs.Faults.{value_fault}
+use Rattle.c2po_types.specs.Environment.{value_of}
+use Rattle.c2po_types.specs.Faults.{value_fault}
 use Rattle.c2po_types.specs.FirstFault.{first_fault}
 use Rattle.c2po_types.specs.Stepwise.{State, start, with_out, body_step, item_step, checked}
 use Rattle.c2po_types.proofs.Parts.{bind-ok, unless-ok, when-ok, when_ranged-ok, ok-inj}
@@ -33,8 +33,8 @@ use Rattle.c2po_types.specs.Outputs.{Place, before, place_after, name_of, asked_
 use Rattle.c2po_compile.specs.Front.{items_in, first_refusal}
 use Rattle.c2po_compile.specs.Compiled.{signals_in, outputs_in}
 use Rattle.c2po_compile.specs.Image.{over_columns}
-use Rattle.c2po_compile.specs.ImageFiles.{image_in}
-use Rattle.c2po_compile.specs.Simplified.{are_smaller, smaller_outputs, simple_image_in}
+use Rattle.c2po_compile.specs.ImageFiles.{compile_over}
+use Rattle.c2po_compile.specs.Simplified.{are_smaller, smaller_outputs, compile_simplified_over}
 use Rattle.c2po_compile.proofs.ImageLaws.{image_of}
 use Rattle.c2po_compile.proofs.TellingLaws.{no_fault}
 use Rattle.obs_show.specs.Lines.{Form, Line, define}
@@ -261,14 +261,14 @@ image_pass signals columns outs program os of names new =
     program_pass program (subst (AreNewNames [] 0) (sym same) (names_new os 0 [] [] (λ x g. g) new))
 
 -- each label in the text of an image is new, also where the image is simplified
-pub labels_pass : (source : List ℕ) (columns : Columns) (program : Program) → first_refusal source ≡ None → program ≡ image_in source columns → LabelsPass 1 (shown_lines program) []
+pub labels_pass : (source : List ℕ) (columns : Columns) (program : Program) → first_refusal source ≡ None → program ≡ compile_over source columns → LabelsPass 1 (shown_lines program) []
 labels_pass source columns program h is =
     let signals : List Signal = signals_in source in
     let outs : List Asked = outputs_in source in
     image_pass signals columns outs program (labels_of (items_in source)) (subst (IsImageOf signals columns outs) (sym is) (image_of columns signals outs))
     (source_names (items_in source)) (source_new (items_in source) (no_fault source h))
 
-pub simple_labels_pass : (source : List ℕ) (columns : Columns) (program : Program) → first_refusal source ≡ None → program ≡ simple_image_in source columns → LabelsPass 1 (shown_lines program) []
+pub simple_labels_pass : (source : List ℕ) (columns : Columns) (program : Program) → first_refusal source ≡ None → program ≡ compile_simplified_over source columns → LabelsPass 1 (shown_lines program) []
 simple_labels_pass source columns program h is =
     let signals : List Signal = signals_in source in
     let outs : List Asked = smaller_outputs columns (outputs_in source) in

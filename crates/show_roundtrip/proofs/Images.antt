@@ -12,7 +12,7 @@ use Rattle.mltl_base.specs.Programs.{out_name as name_in_program}
 use Rattle.mltl_base.specs.Reports.{Output, formula, contract}
 use Rattle.mltl_base.specs.Formula.{Core}
 use Rattle.mltl_base.specs.Subformulas.{Asked, IsTensed, out_by, subformulas}
-use Rattle.c2po_nodes.specs.Outputs.{asked_over}
+use Rattle.c2po_ast.specs.Outputs.{asked_over}
 use Rattle.c2po_compile.specs.Images.{IsImageOf, stored_signals}
 use Rattle.obs_verify.specs.Layout.{HasLayout}
 use Rattle.obs_verify.specs.WellFormed.{IsWellFormed}
@@ -29,8 +29,8 @@ use Rattle.c2po_compile.specs.Refusals.{token_refusal, tree_refusal}
 use Rattle.c2po_compile.specs.Front.{tokens_in, items_in, refusal_in, first_refusal}
 use Rattle.c2po_compile.specs.Compiled.{signals_in, outputs_in}
 use Rattle.c2po_compile.specs.Image.{over_columns, image}
-use Rattle.c2po_compile.specs.ImageFiles.{image_in, stored_columns}
-use Rattle.c2po_compile.specs.Simplified.{are_smaller, smaller_outputs, simple_image_in}
+use Rattle.c2po_compile.specs.ImageFiles.{compile_over, stored_columns}
+use Rattle.c2po_compile.specs.Simplified.{are_smaller, smaller_outputs, compile_simplified_over}
 use Rattle.c2po_compile.proofs.ImageLaws.{image_of}
 use Rattle.c2po_compile.proofs.TellingLaws.{second_none, tensed}
 use Rattle.mltl_simplify.proofs.Ending.{simple_tensed}
@@ -156,7 +156,7 @@ smaller_tensed columns outs h = go (are_smaller (over_columns columns (simple_ou
 
 -- ---- images
 
-pub image_words : (source : List ℕ) (columns : Columns) → first_refusal source ≡ None → HasOwnWords (image_in source columns)
+pub image_words : (source : List ℕ) (columns : Columns) → first_refusal source ≡ None → HasOwnWords (compile_over source columns)
 unfolding image
 image_words source columns h =
     let good : GoodItems (items_in source) = items_good source h in
@@ -167,7 +167,7 @@ image_words source columns h =
       constants = image_counted columns (outputs_in source) (outputs_natural (items_in source) good);
     }
 
-pub simple_words : (source : List ℕ) (columns : Columns) → first_refusal source ≡ None → HasOwnWords (simple_image_in source columns)
+pub simple_words : (source : List ℕ) (columns : Columns) → first_refusal source ≡ None → HasOwnWords (compile_simplified_over source columns)
 unfolding image
 simple_words source columns h =
     let good : GoodItems (items_in source) = items_good source h in
@@ -180,16 +180,16 @@ simple_words source columns h =
     }
 
 -- an image returns
-pub image_returns : (source : List ℕ) (columns : Columns) (program : Program) → first_refusal source ≡ None → program ≡ image_in source columns → HasLayout program → IsWellFormed program → first_refusal (text program) ≡ None
-    → image_in (text program) (stored_columns program) ≡ program
+pub image_returns : (source : List ℕ) (columns : Columns) (program : Program) → first_refusal source ≡ None → program ≡ compile_over source columns → HasLayout program → IsWellFormed program → first_refusal (text program) ≡ None
+    → compile_over (text program) (stored_columns program) ≡ program
 image_returns source columns program h is few formed none =
     let of = image_of columns (signals_in source) (outputs_in source) in
     let same = sym is in
     program_returns (signals_in source) columns (outputs_in source) program (subst (λ (p : Program). IsImageOf (signals_in source) columns (outputs_in source) p) same of) (tensed source h) formed
     (program_words program few formed (ap (λ (p : Program). p.version) is ∙ of.version) (subst HasOwnWords same (image_words source columns h))) none
 
-pub simple_returns : (source : List ℕ) (columns : Columns) (program : Program) → first_refusal source ≡ None → program ≡ simple_image_in source columns → HasLayout program → IsWellFormed program → first_refusal (text program) ≡ None
-    → image_in (text program) (stored_columns program) ≡ program
+pub simple_returns : (source : List ℕ) (columns : Columns) (program : Program) → first_refusal source ≡ None → program ≡ compile_simplified_over source columns → HasLayout program → IsWellFormed program → first_refusal (text program) ≡ None
+    → compile_over (text program) (stored_columns program) ≡ program
 simple_returns source columns program h is few formed none =
     let outs : List Asked = smaller_outputs columns (outputs_in source) in
     let of = image_of columns (signals_in source) outs in

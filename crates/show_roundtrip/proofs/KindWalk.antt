@@ -9,7 +9,7 @@ use Rattle.std.proofs.lemmas.List.Sums.{sum_by-append, sum_by-cons}
 use Rattle.std.proofs.lemmas.Bool.Decides.{nat_tests}
 use Rattle.std.proofs.lemmas.Slice.Eq.{bytes_eq-Decides}
 use Rattle.mltl_base.specs.declared.program.Program.{Program}
-use Rattle.c2po_unfold.specs.Tables.{Table, is_named}
+use Rattle.c2po_types.specs.Tables.{Table, is_named}
 use Rattle.c2po_types.specs.declared.kind.Kind.{Kind}
 use Rattle.c2po_types.specs.declared.kind.Meaning.{Meaning}
 use Rattle.c2po_types.specs.declared.kind.Meaning.TheVariants.{Value}

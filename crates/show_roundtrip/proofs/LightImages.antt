@@ -31,8 +31,8 @@ use Rattle.c2po_types.proofs.OwnNames as own
 use Rattle.c2po_compile.specs.Front.{items_in, first_refusal}
 use Rattle.c2po_compile.specs.Compiled.{signals_in, outputs_in}
 use Rattle.c2po_compile.specs.Image.{image}
-use Rattle.c2po_compile.specs.ImageFiles.{image_in}
-use Rattle.c2po_compile.specs.Simplified.{smaller_outputs, simple_image_in}
+use Rattle.c2po_compile.specs.ImageFiles.{compile_over}
+use Rattle.c2po_compile.specs.Simplified.{smaller_outputs, compile_simplified_over}
 use Rattle.c2po_compile.proofs.ImageLaws.{image_of}
 use Rattle.c2po_compile.proofs.TellingLaws.{no_fault, tensed}
 use Rattle.show_roundtrip.proofs.Images.{smaller_tensed}
@@ -139,13 +139,13 @@ image_light outs program has tense few =
 of_light : (signals : List Signal) (columns : Columns) (outs : List Asked) (program : Program) → IsImageOf signals columns outs program → All IsTensed outs → program_weight program ≤ MAX_WEIGHT → IsLight program
 of_light signals columns outs program of tense few = image_light _ program of.lists (tensed_over columns.of_signal outs tense) few
 
-pub plain_light : (source : List ℕ) (columns : Columns) (program : Program) → first_refusal source ≡ None → program ≡ image_in source columns → program_weight program ≤ MAX_WEIGHT → IsLight program
+pub plain_light : (source : List ℕ) (columns : Columns) (program : Program) → first_refusal source ≡ None → program ≡ compile_over source columns → program_weight program ≤ MAX_WEIGHT → IsLight program
 plain_light source columns program h is few =
     let signals : List Signal = signals_in source in
     let outs : List Asked = outputs_in source in
     of_light signals columns outs program (subst (IsImageOf signals columns outs) (sym is) (image_of columns signals outs)) (tensed source h) few
 
-pub simple_light : (source : List ℕ) (columns : Columns) (program : Program) → first_refusal source ≡ None → program ≡ simple_image_in source columns → program_weight program ≤ MAX_WEIGHT → IsLight program
+pub simple_light : (source : List ℕ) (columns : Columns) (program : Program) → first_refusal source ≡ None → program ≡ compile_simplified_over source columns → program_weight program ≤ MAX_WEIGHT → IsLight program
 simple_light source columns program h is few =
     let signals : List Signal = signals_in source in
     let outs : List Asked = smaller_outputs columns (outputs_in source) in
@@ -162,10 +162,10 @@ few_stored source columns h =
     omega (arith, no_more_stored (signals_in source) columns.of_signal, own.few_signals (items_in source) (no_fault source h))
 
 -- an image stores no more signals than a specification may declare
-pub few_signals : (source : List ℕ) (columns : Columns) → first_refusal source ≡ None → length (image_in source columns).signals ≤ MAX_SIGNALS
+pub few_signals : (source : List ℕ) (columns : Columns) → first_refusal source ≡ None → length (compile_over source columns).signals ≤ MAX_SIGNALS
 unfolding image
 few_signals source columns h = few_stored source columns h
 
-pub simple_few_signals : (source : List ℕ) (columns : Columns) → first_refusal source ≡ None → length (simple_image_in source columns).signals ≤ MAX_SIGNALS
+pub simple_few_signals : (source : List ℕ) (columns : Columns) → first_refusal source ≡ None → length (compile_simplified_over source columns).signals ≤ MAX_SIGNALS
 unfolding image
 simple_few_signals source columns h = few_stored source columns h

@@ -18,12 +18,12 @@ use Rattle.mltl_base.specs.Atoms.{Atom, is_true}
 use Rattle.mltl_base.specs.Formula.{Formula, Core, ctrue, plain, formula_over}
 use Rattle.mltl_base.specs.Programs.{Expression, whole, truth, expression_term, atom_of, term_at, expression_of, expressions_after, expressions, atoms, core_at, op_formula, past_formula_of, formulas_after, past_formulas_after, cores_of, formula_at, output_of}
 use Rattle.mltl_base.specs.Ranges.{NoRange, Ranged, divisor, wide, range}
-use Rattle.c2po_nodes.specs.Faults.{why_none, or_later, term_fault, atom_fault, formula_fault}
-use Rattle.c2po_nodes.specs.Tenses.{has_past, has_future}
-use Rattle.c2po_unfold.specs.Values as values
-use Rattle.c2po_unfold.specs.Values.{Value}
-use Rattle.c2po_unfold.specs.Weights.{weight}
-use Rattle.c2po_unfold.specs.Environment.{Env, value_of}
+use Rattle.c2po_ast.specs.Faults.{why_none, or_later, term_fault, atom_fault, formula_fault}
+use Rattle.c2po_ast.specs.Tenses.{has_past, has_future}
+use Rattle.c2po_types.specs.Values as values
+use Rattle.c2po_types.specs.Values.{Value}
+use Rattle.c2po_types.specs.Weights.{weight}
+use Rattle.c2po_types.specs.Environment.{Env, value_of}
 use Rattle.c2po_types.specs.Outputs.{Place, before, place_after}
 use Rattle.c2po_types.specs.FirstFault.{is_mixed}
 use Rattle.obs_verify.specs.WellFormed.{IsWellFormed, bz_fault, no_range_fault}

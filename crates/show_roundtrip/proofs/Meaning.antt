@@ -3,7 +3,7 @@
 use Rattle.std.proofs.Common.{◌≡◌, map, None}
 use Rattle.mltl_base.specs.declared.program.Program.{Program}
 use Rattle.mltl_base.specs.Subformulas.{unfolded_outputs}
-use Rattle.c2po_nodes.specs.Outputs.{asked_over}
+use Rattle.c2po_ast.specs.Outputs.{asked_over}
 use Rattle.obs_verify.specs.WellFormed.{IsWellFormed}
 use Rattle.c2po_types.specs.FirstFault.{first_fault}
 use Rattle.c2po_types.specs.Outputs.{outputs_of}

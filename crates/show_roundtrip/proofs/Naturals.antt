@@ -24,11 +24,11 @@ use Rattle.c2po_ast.specs.ItemShape as item
 use Rattle.c2po_ast.specs.ItemShape.{BodyShape, ItemShape}
 use Rattle.c2po_ast.specs.Shape.{Shape}
 use Rattle.c2po_types.specs.Signals.{body_signals}
-use Rattle.c2po_nodes.specs.Nodes.{constant_formula, arithmetic, comparison, connected, windowed, ranged}
+use Rattle.c2po_ast.specs.Nodes.{constant_formula, arithmetic, comparison, connected, windowed, ranged}
 use Rattle.c2po_types.specs.Outputs.{Place, before, values_after, asked_at, place_after, asked_from, outputs_of, with_signals}
-use Rattle.c2po_unfold.specs.Values.{formula_of, interval}
-use Rattle.c2po_unfold.specs.Environment.{Env, fields, value, signal_value, declare, value_of}
-use Rattle.c2po_unfold.proofs.ValueWalk.{EnvHas, Keeps, ValueHas, declare_has, formula_has, nothing_has, value_has}
+use Rattle.c2po_types.specs.Values.{formula_of, interval}
+use Rattle.c2po_types.specs.Environment.{Env, fields, value, signal_value, declare, value_of}
+use Rattle.c2po_types.proofs.ValueWalk.{EnvHas, Keeps, ValueHas, declare_has, formula_has, nothing_has, value_has}
 
 -- constants are numbers of the language
 abbrev pub TermNatural : Term → Type 0

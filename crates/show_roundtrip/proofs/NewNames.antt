@@ -5,11 +5,11 @@ use Rattle.std.proofs.lemmas.List.{length-append}
 use Rattle.c2po_types.specs.declared.kind.Kind.{Kind}
 use Rattle.c2po_types.specs.declared.kind.Meaning.TheVariants.{Value}
 use Rattle.c2po_types.specs.declared.declarations.Declarations.{Declarations}
-use Rattle.c2po_unfold.specs.Tables.{is_named}
+use Rattle.c2po_types.specs.Tables.{is_named}
 use Rattle.c2po_types.specs.Expressions.{kind_of}
 use Rattle.c2po_types.specs.Items.{nothing, new, signal_kind}
 use Rattle.c2po_types.specs.Scopes.{outside}
-use Rattle.c2po_unfold.specs.Environment.{Env, value, declare, signal_value, value_of}
+use Rattle.c2po_types.specs.Environment.{Env, value, declare, signal_value, value_of}
 use Rattle.c2po_types.specs.Outputs.{Place, before, place_after}
 use Rattle.obs_show.specs.Lines.{Form, Line, input, define, formula, contract}
 use Rattle.c2po_types.proofs.SignalLaws.{signal_last}

@@ -16,11 +16,11 @@ use Rattle.c2po_types.specs.Checking.{Checked, ◌>>=◌, in_turn, fault_of}
 use Rattle.c2po_types.specs.Items.{Labels, nothing, with_value, with_label, formula_kind, contract_kind}
 use Rattle.c2po_types.specs.FirstFault.{first_fault, is_mixed}
 use Rattle.c2po_types.specs.Stepwise.{State, when_ranged, one_tense, defined, with_out, one_out, two_out, item_step, checked}
-use Rattle.c2po_nodes.specs.Faults.{formula_fault, or_later}
-use Rattle.c2po_unfold.specs.Weights.{weight}
-use Rattle.c2po_unfold.specs.Values.{Value, formula_of}
-use Rattle.c2po_unfold.specs.Faults.{value_fault}
-use Rattle.c2po_unfold.specs.Environment.{Env, value, declare, signal_value}
+use Rattle.c2po_ast.specs.Faults.{formula_fault, or_later}
+use Rattle.c2po_types.specs.Weights.{weight}
+use Rattle.c2po_types.specs.Values.{Value, formula_of}
+use Rattle.c2po_types.specs.Faults.{value_fault}
+use Rattle.c2po_types.specs.Environment.{Env, value, declare, signal_value}
 use Rattle.c2po_types.specs.Outputs.{Place, before, place_after, with_signals}
 use Rattle.c2po_types.proofs.Ruling.{known, rule_is}
 use Rattle.obs_show.specs.Lines.{Reference, Form, Line, input, define, formula, contract}

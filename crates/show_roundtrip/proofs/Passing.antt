@@ -12,11 +12,11 @@ use Rattle.c2po_types.specs.declared.kind.Kind.{Kind}
 use Rattle.c2po_types.specs.declared.declarations.Declarations.{Declarations}
 use Rattle.c2po_types.specs.Items.{Labels, with_input, with_value, with_label, define_kind, formula_kind, contract_kind}
 use Rattle.c2po_types.specs.FirstFault.{is_mixed}
-use Rattle.c2po_nodes.specs.Faults.{formula_fault, or_later}
-use Rattle.c2po_unfold.specs.Values.{Value, formula_of}
-use Rattle.c2po_unfold.specs.Weights.{weight}
-use Rattle.c2po_unfold.specs.Faults.{value_fault}
-use Rattle.c2po_unfold.specs.Environment.{value_of}
+use Rattle.c2po_ast.specs.Faults.{formula_fault, or_later}
+use Rattle.c2po_types.specs.Values.{Value, formula_of}
+use Rattle.c2po_types.specs.Weights.{weight}
+use Rattle.c2po_types.specs.Faults.{value_fault}
+use Rattle.c2po_types.specs.Environment.{value_of}
 use Rattle.c2po_types.specs.Outputs.{Place, place_after}
 use Rattle.obs_show.specs.Lines.{Reference, Form, Line, input, define, formula, contract}
 use Rattle.obs_show.specs.Weight as shown

@@ -7,7 +7,7 @@ use Rattle.mltl_base.specs.declared.program.Program.{Program}
 use Rattle.mltl_base.specs.declared.signal.Signal.{Signal}
 use Rattle.mltl_base.specs.Subformulas.{Asked, IsTensed, HasListsOf, unfolded_outputs}
 use Rattle.mltl_base.proofs.Returning.{lists_return}
-use Rattle.c2po_nodes.specs.Outputs.{asked_over}
+use Rattle.c2po_ast.specs.Outputs.{asked_over}
 use Rattle.obs_verify.specs.WellFormed.{IsWellFormed}
 use Rattle.c2po_compile.specs.Images.{IsImageOf, stored_signals}
 use Rattle.c2po_ast.specs.ItemShape.{ItemShape}
@@ -17,7 +17,7 @@ use Rattle.c2po_types.specs.Signals.{signals_of}
 use Rattle.c2po_types.specs.Outputs.{outputs_of}
 use Rattle.c2po_compile.specs.Front.{items_in, first_refusal}
 use Rattle.c2po_compile.specs.Compiled.{signals_in, outputs_in}
-use Rattle.c2po_compile.specs.ImageFiles.{image_in, stored_columns}
+use Rattle.c2po_compile.specs.ImageFiles.{compile_over, stored_columns}
 use Rattle.c2po_compile.proofs.ImageLaws.{image_is}
 use Rattle.c2po_compile.proofs.TellingLaws.{no_fault}
 use Rattle.obs_show.specs.Text.{shown_lines, text}
@@ -36,7 +36,7 @@ items_said program h =
 
 -- the text of a program is that of a specification whose image the program is
 pub program_returns : (signals : List Signal) (columns : Columns) (outs : List Asked) (program : Program) → IsImageOf signals columns outs program → All IsTensed outs
-    → IsWellFormed program → HaveWords (shown_lines program) → first_refusal (text program) ≡ None → image_in (text program) (stored_columns program) ≡ program
+    → IsWellFormed program → HaveWords (shown_lines program) → first_refusal (text program) ≡ None → compile_over (text program) (stored_columns program) ≡ program
 program_returns signals columns outs program is tensed formed words none =
     let items : items_in (text program) ≡ line_items 1 (shown_lines program) = items_said program words in
     let faultless : first_fault (line_items 1 (shown_lines program)) ≡ None = ap first_fault (sym items) ∙ no_fault (text program) none in

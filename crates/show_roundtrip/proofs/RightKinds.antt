@@ -22,7 +22,7 @@ use Rattle.mltl_base.specs.declared.operators.PtOp as pt
 use Rattle.mltl_base.specs.declared.program.Out as out
 use Rattle.mltl_base.specs.declared.program.Program.{Program}
 use Rattle.mltl_base.specs.declared.program.StoredSignal.{StoredSignal}
-use Rattle.c2po_unfold.specs.Tables.{Table, entry_of, is_named}
+use Rattle.c2po_types.specs.Tables.{Table, entry_of, is_named}
 use Rattle.c2po_types.specs.declared.kind.Kind.{Kind}
 use Rattle.c2po_types.specs.declared.kind.Meaning.{Meaning}
 use Rattle.c2po_types.specs.declared.kind.Meaning.TheVariants.{Value}

@@ -19,8 +19,8 @@ use Rattle.c2po_types.specs.FirstFault.{first_fault}
 use Rattle.c2po_compile.specs.Refusals.{token_refusal, tree_refusal, check_refusal}
 use Rattle.c2po_compile.specs.Front.{tokens_in, items_in, refusal_in, first_refusal}
 use Rattle.c2po_compile.specs.Image.{image}
-use Rattle.c2po_compile.specs.ImageFiles.{image_in}
-use Rattle.c2po_compile.specs.Simplified.{simple_image_in}
+use Rattle.c2po_compile.specs.ImageFiles.{compile_over}
+use Rattle.c2po_compile.specs.Simplified.{compile_simplified_over}
 use Rattle.obs_show.specs.declared.fault.ShowFault.{ShowFault}
 use Rattle.obs_show.specs.declared.fault.ShowFault.TheVariants.{TooLong, Wide}
 use Rattle.obs_show.specs.Limits.{show_fault}
@@ -72,7 +72,7 @@ program_passes program few formed version words narrow light names =
     (lines_pass (shown_lines program) kinds names (values_pass program formed version (new_of_kinds (shown_lines program) kinds) light))
 
 -- the text of an image isn't refused
-pub image_passes : (source : List ℕ) (columns : Columns) (program : Program) → first_refusal source ≡ None → program ≡ image_in source columns → HasLayout program → IsWellFormed program → show_fault program ≡ None
+pub image_passes : (source : List ℕ) (columns : Columns) (program : Program) → first_refusal source ≡ None → program ≡ compile_over source columns → HasLayout program → IsWellFormed program → show_fault program ≡ None
     → first_refusal (text program) ≡ None
 unfolding image
 image_passes source columns program none is few formed within =
@@ -84,7 +84,7 @@ image_passes source columns program none is few formed within =
     (labels_pass source columns program none is)
 
 -- nor is that of a simplified one
-pub simple_passes : (source : List ℕ) (columns : Columns) (program : Program) → first_refusal source ≡ None → program ≡ simple_image_in source columns → HasLayout program → IsWellFormed program → show_fault program ≡ None
+pub simple_passes : (source : List ℕ) (columns : Columns) (program : Program) → first_refusal source ≡ None → program ≡ compile_simplified_over source columns → HasLayout program → IsWellFormed program → show_fault program ≡ None
     → first_refusal (text program) ≡ None
 unfolding image
 simple_passes source columns program none is few formed within =

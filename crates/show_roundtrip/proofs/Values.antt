@@ -15,14 +15,14 @@ use Rattle.mltl_base.specs.Atoms.{Term, constant, Atom, term_over, atom_over}
 use Rattle.mltl_base.specs.Formula as full
 use Rattle.mltl_base.specs.Formula.{Formula, Core, plain, formula_over}
 use Rattle.mltl_base.specs.Programs.{Expression, whole, truth}
-use Rattle.c2po_nodes.specs.Nodes as nodes
-use Rattle.c2po_nodes.specs.Nodes.{arithmetic, comparison, connected, ranged}
-use Rattle.c2po_nodes.specs.Faults.{tree_fault}
-use Rattle.c2po_unfold.specs.Faults.{value_fault}
-use Rattle.c2po_unfold.specs.Values as values
-use Rattle.c2po_unfold.specs.Values.{Value, leaf, structure, set, leaf_tree, number_value, truth_value, tree_in, interval}
-use Rattle.c2po_unfold.specs.Weights.{weight}
-use Rattle.c2po_unfold.specs.Environment.{Env, Known, nothing, value, declare, or_else, value_in, value_of}
+use Rattle.c2po_ast.specs.Nodes as nodes
+use Rattle.c2po_ast.specs.Nodes.{arithmetic, comparison, connected, ranged}
+use Rattle.c2po_ast.specs.Faults.{tree_fault}
+use Rattle.c2po_types.specs.Faults.{value_fault}
+use Rattle.c2po_types.specs.Values as values
+use Rattle.c2po_types.specs.Values.{Value, leaf, structure, set, leaf_tree, number_value, truth_value, tree_in, interval}
+use Rattle.c2po_types.specs.Weights.{weight}
+use Rattle.c2po_types.specs.Environment.{Env, Known, nothing, value, declare, or_else, value_in, value_of}
 use Rattle.obs_show.specs.Lines.{Reference, always, named, number, Form, minus, arith as computes, compare, negation, logic, between}
 use Rattle.obs_show.specs.Weight.{term_weight, atom_weight, formula_weight}
 use Rattle.std.proofs.lemmas.Slice.Eq.{bytes_eq-Decides}

@@ -21,15 +21,15 @@ use Rattle.mltl_base.specs.Programs as programs
 use Rattle.mltl_base.specs.Programs.{Expression, whole, truth, term_at, expression_of, expressions_after, expressions, core_at, op_formula, past_formula_of, formulas_after, past_formulas_after}
 use Rattle.obs_verify.specs.WellFormed.{is_truth, has_kind, has_operands}
 use Rattle.obs_verify.specs.Soundness.{IsWhole, IsWholeExpression, AreWhole, SoundOp, SoundOps}
-use Rattle.c2po_nodes.specs.Nodes.{arithmetic, comparison}
-use Rattle.c2po_unfold.specs.Values.{number_value}
-use Rattle.c2po_unfold.specs.Environment.{Env, nothing, value, signal_value, value_of}
+use Rattle.c2po_ast.specs.Nodes.{arithmetic, comparison}
+use Rattle.c2po_types.specs.Values.{number_value}
+use Rattle.c2po_types.specs.Environment.{Env, nothing, value, signal_value, value_of}
 use Rattle.c2po_types.specs.Outputs.{Place, place_after, asked_from}
 use Rattle.obs_show.specs.Lines.{Reference, named, Form, arith as computes, compare, Line, define}
 use Rattle.obs_show.specs.Naming.{name_in, bz_name, bz_called, bz_reference}
 use Rattle.obs_show.specs.Text.{bz_form, bz_line}
 use Rattle.obs_show.specs.Weight.{term_weight, formula_weight}
-use Rattle.c2po_nodes.proofs.Places.{get_left}
+use Rattle.c2po_ast.proofs.Places.{get_left}
 use Rattle.obs_verify.proofs.RuleLaws.{and_right}
 use Rattle.show_roundtrip.specs.Said.{form_shape, line_body, line_items}
 use Rattle.show_roundtrip.specs.Unfolded.{AreNew}

@@ -22,11 +22,11 @@ use Rattle.mltl_base.specs.Reports as reports
 use Rattle.mltl_base.specs.Reports.{Output}
 use Rattle.mltl_base.specs.Programs.{Expression, expression_of, expressions_after, expressions, atoms, op_formula, past_formula_of, formulas_after, past_formulas_after, formula_at}
 use Rattle.mltl_base.specs.Subformulas.{Asked, asked_of_program, unfolded_outputs}
-use Rattle.c2po_nodes.specs.Outputs.{asked_over}
+use Rattle.c2po_ast.specs.Outputs.{asked_over}
 use Rattle.obs_verify.specs.Soundness.{SoundOps}
 use Rattle.obs_verify.specs.WellFormed.{reports_within}
-use Rattle.c2po_unfold.specs.Values as values
-use Rattle.c2po_unfold.specs.Environment.{Env, nothing, value, declare, signal_value, value_of}
+use Rattle.c2po_types.specs.Values as values
+use Rattle.c2po_types.specs.Environment.{Env, nothing, value, declare, signal_value, value_of}
 use Rattle.c2po_types.specs.Outputs.{Place, before, place_after, name_of, asked_at, asked_from, outputs_of}
 use Rattle.obs_show.specs.Lines.{Reference, Line, input}
 use Rattle.obs_show.specs.Naming.{ft_reference, pt_reference}

@@ -3,7 +3,7 @@
 use Rattle.std.specs.Prelude.{◌≡◌, ◌+◌, ℕ, List, [], ◌∷◌, ⊤}
 use Rattle.mltl_base.specs.declared.program.StoredSignal.{StoredSignal}
 use Rattle.mltl_base.specs.declared.signal.Signal.{Signal}
-use Rattle.c2po_unfold.specs.Environment.{Env, nothing}
+use Rattle.c2po_types.specs.Environment.{Env, nothing}
 use Rattle.c2po_types.specs.Outputs.{Place, place_after}
 use Rattle.obs_show.specs.Lines.{Line, input, define, formula, contract}
 use Rattle.show_roundtrip.specs.Said.{line_body}

@@ -5,12 +5,12 @@ ghost use Rattle.mltl_base.specs.declared.program.Columns.{Columns as Places};
 ghost use Rattle.mltl_base.specs.declared.signal.Signal.{Signal as Declared};
 ghost use Rattle.c2po_compile.specs.Images.{IsImageOf};
 ghost use Rattle.c2po_compile.specs.Front.{first_refusal, items_in};
-ghost use Rattle.c2po_compile.specs.ImageFiles.{image_in, stored_columns};
+ghost use Rattle.c2po_compile.specs.ImageFiles.{compile_over, stored_columns};
 ghost use Rattle.mltl_base.specs.declared.program.Program.{Program as Observer};
 ghost use Rattle.mltl_base.specs.Subformulas.{Asked, IsTensed, unfolded_outputs};
-ghost use Rattle.c2po_nodes.specs.Outputs.{asked_over};
+ghost use Rattle.c2po_ast.specs.Outputs.{asked_over};
 ghost use Rattle.obs_verify.specs.Layout.{HasLayout};
-ghost use Rattle.c2po_compile.specs.Simplified.{simple_image_in};
+ghost use Rattle.c2po_compile.specs.Simplified.{compile_simplified_over};
 ghost use Rattle.show_roundtrip.specs.Named.{HasOwnWords};
 ghost use Rattle.obs_show.specs.Limits.{show_fault};
 ghost use Rattle.obs_verify.specs.WellFormed.{IsWellFormed};
@@ -63,7 +63,7 @@ pub fn shown_programs_return()
     ensures returns { (signals : List Declared) (columns : Places) (outs : List Asked)
         (program : Observer) → IsImageOf signals columns outs program → All IsTensed outs →
         IsWellFormed program → HaveWords (shown_lines program) → first_refusal (text program) ≡ None →
-        image_in (text program) (stored_columns program) ≡ program }
+        compile_over (text program) (stored_columns program) ≡ program }
 {}
 
 /// The text of a program is read again as its lines: where their names are names of the language
@@ -87,9 +87,9 @@ pub fn programs_with_words_are_readable()
 #[tactic(auto, using(crate::proofs::Images::image_words, crate::proofs::Images::simple_words))]
 pub fn images_have_words()
     ensures plain { (source : List ℕ) (columns : Places) → first_refusal source ≡ None →
-        HasOwnWords (image_in source columns) }
+        HasOwnWords (compile_over source columns) }
     ensures simple { (source : List ℕ) (columns : Places) → first_refusal source ≡ None →
-        HasOwnWords (simple_image_in source columns) }
+        HasOwnWords (compile_simplified_over source columns) }
 {}
 
 /// The image of a text without a fault returns when it is shown, also in simplified form: where the
@@ -98,13 +98,13 @@ pub fn images_have_words()
 #[tactic(auto, using(crate::proofs::Images::image_returns, crate::proofs::Images::simple_returns))]
 pub fn shown_images_return()
     ensures plain { (source : List ℕ) (columns : Places) (program : Observer) →
-        first_refusal source ≡ None → program ≡ image_in source columns →
+        first_refusal source ≡ None → program ≡ compile_over source columns →
         HasLayout program → IsWellFormed program → first_refusal (text program) ≡ None →
-        image_in (text program) (stored_columns program) ≡ program }
+        compile_over (text program) (stored_columns program) ≡ program }
     ensures simple { (source : List ℕ) (columns : Places) (program : Observer) →
-        first_refusal source ≡ None → program ≡ simple_image_in source columns →
+        first_refusal source ≡ None → program ≡ compile_simplified_over source columns →
         HasLayout program → IsWellFormed program → first_refusal (text program) ≡ None →
-        image_in (text program) (stored_columns program) ≡ program }
+        compile_over (text program) (stored_columns program) ≡ program }
 {}
 
 /// The text of an image, simplified or not, has no fault where the image is within the limits of
@@ -112,11 +112,11 @@ pub fn shown_images_return()
 #[tactic(auto, using(crate::proofs::ShownImages::image_passes, crate::proofs::ShownImages::simple_passes))]
 pub fn shown_images_have_no_fault()
     ensures plain { (source : List ℕ) (columns : Places) (program : Observer) →
-        first_refusal source ≡ None → program ≡ image_in source columns →
+        first_refusal source ≡ None → program ≡ compile_over source columns →
         HasLayout program → IsWellFormed program → show_fault program ≡ None →
         first_refusal (text program) ≡ None }
     ensures simple { (source : List ℕ) (columns : Places) (program : Observer) →
-        first_refusal source ≡ None → program ≡ simple_image_in source columns →
+        first_refusal source ≡ None → program ≡ compile_simplified_over source columns →
         HasLayout program → IsWellFormed program → show_fault program ≡ None →
         first_refusal (text program) ≡ None }
 {}

@@ -7,8 +7,8 @@ ghost use Rattle.tool_io.specs.Host.{IsSource, ReadCause, LeftElsewhere};
 ghost use Rattle.tool_io.specs.Cutting.{HasNoNewline, EndsLine, IsRow, fresh, keeps, row_of, line_text, HasLine, CutsLine, LineCause};
 
 use crate::host::{Got, Host, Place};
-use fixed_list::Fixed;
 use memchr::memchr;
+use mltl_base::Fixed;
 use mltl_base::limits::MAX_LINE_BYTES;
 use std::alloc::{AllocError, Global};
 use std::marker::Model;

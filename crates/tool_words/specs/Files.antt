@@ -6,8 +6,8 @@ use Rattle.tool_io.specs.declared.host.Place.{Place}
 use Rattle.tool_io.specs.declared.host.Place.TheVariants as at
 use Rattle.tool_words.specs.declared.file_kind.FileKind.{FileKind}
 use Rattle.tool_words.specs.declared.file_kind.FileKind.TheVariants.{Spec, Program}
-use Rattle.obs_files.specs.declared.fault.FileFault.{FileFault}
-use Rattle.obs_files.specs.declared.fault.FileFault.TheVariants as file_fault
+use Rattle.obs_binary.specs.declared.file_fault.FileFault.{FileFault}
+use Rattle.obs_binary.specs.declared.file_fault.FileFault.TheVariants as file_fault
 use Rattle.tool_words.specs.declared.status.Status as status
 
 -- where it is read

@@ -4,8 +4,8 @@ use Rattle.std.specs.Prelude.{ℕ, ◌+◌, List, [], ◌++◌, codes, decimal}
 use Rattle.tool_io.specs.declared.host.Place as place
 use Rattle.tool_words.specs.declared.message.Tool as tool
 use Rattle.tool_words.specs.declared.status.Status as status
-use Rattle.obs_files.specs.declared.fault.FileFault.TheVariants.{Program}
-use Rattle.obs_files.specs.Texts.{file_fault_text}
+use Rattle.obs_binary.specs.declared.file_fault.FileFault.TheVariants.{Program}
+use Rattle.obs_binary.specs.Texts.{file_fault_text}
 use Rattle.c2po_compile.specs.declared.fault.CompileFault as compile
 use Rattle.c2po_compile.specs.FaultTexts.{compile_fault_text}
 use Rattle.c2po_compile.specs.HeaderTexts.{missing_text, twice_text}

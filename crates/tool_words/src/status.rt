@@ -6,7 +6,7 @@ ghost use Rattle.tool_words.specs.Files.{file_status};
 ghost use Rattle.tool_words.specs.Statuses.{compile_status};
 
 use c2po_compile::{CompileFault, HeaderWhy, Refusal};
-use obs_files::{FileFault, ProgramFault};
+use obs_binary::{FileFault, ProgramFault};
 use std::alloc::AllocError;
 use tool_io::Place;
 use trace_feed::TraceWhy;

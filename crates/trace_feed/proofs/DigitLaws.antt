@@ -13,7 +13,7 @@ use Rattle.std.proofs.lemmas.List.Elements.{All-get_or}
 use Rattle.std.proofs.lemmas.Str.Parse.{IsNumeralModel, digits_value_short, numerals_by_value, tells_digits}
 use Rattle.mltl_base.proofs.Digits.{numerals}
 use Rattle.mltl_base.specs.Blanks.{is_blank}
-use Rattle.trace_feed.specs.Blanks.{trimmed}
+use Rattle.trace_columns.specs.Blanks.{trimmed}
 use Rattle.trace_feed.specs.Readings.{sign_length, read_value}
 use Rattle.trace_feed.specs.Rows.{is_comma, is_numeral, field_value}
 use Rattle.trace_feed.specs.declared.fields.Reading.{Reading}

@@ -14,7 +14,7 @@ use Rattle.mltl_base.specs.declared.operators.BzOp.{BzOp}
 use Rattle.mltl_base.specs.declared.operators.BzOp.TheVariants.{Column, IsTrue, Const}
 use Rattle.mltl_base.specs.declared.program.Program.{Program}
 use Rattle.mltl_base.specs.Blanks.{is_blank_line}
-use Rattle.trace_feed.specs.Blanks.{trimmed}
+use Rattle.trace_columns.specs.Blanks.{trimmed}
 use Rattle.trace_feed.specs.Readings.{fields_meaning}
 use Rattle.trace_feed.specs.Rows.{IsMeaningOf, LineMeaning, row, blank, too_few, fields_of, has_32_bits, is_bit, is_numeral, field_before, line_meaning, field_number, reading_of, reads_truth, reads_whole, row_from, field_value}
 use Rattle.trace_feed.specs.declared.fields.FieldFault.{FieldFault}

@@ -4,8 +4,4 @@ pub mod DigitLaws
 pub mod RowLaws
 pub mod ReadingLaws
 pub mod FitLaws
-pub mod PlaceLaws
-pub mod CsvLaws
-pub mod ColumnLaws
-pub mod StoredLaws
 pub mod PassedFields

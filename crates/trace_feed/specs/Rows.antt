@@ -10,7 +10,7 @@ use Rattle.mltl_base.specs.Atoms.{Row}
 use Rattle.mltl_base.specs.declared.operators.BzOp as bz
 use Rattle.mltl_base.specs.declared.program.Program.{Program}
 use Rattle.mltl_base.specs.Blanks.{is_blank_line}
-use Rattle.trace_feed.specs.Blanks.{trimmed}
+use Rattle.trace_columns.specs.Blanks.{trimmed}
 use Rattle.trace_feed.specs.declared.fields.FieldFault.{FieldFault}
 use Rattle.trace_feed.specs.declared.fields.FieldFault.TheVariants.{NotWhole, OutOfRange}
 use Rattle.trace_feed.specs.declared.fields.Reading.{Reading}

@@ -8,8 +8,8 @@ ghost use Rattle.trace_feed.specs.declared.fields.Reading.{Reading as Way};
 ghost use Rattle.trace_feed.specs.Readings.{sign_length, read_value as value_with};
 ghost use Rattle.trace_feed.specs.Rows.{has_32_bits, in_range, is_bit, is_comma, is_numeral as writes_number, field_number, field_value as value_in};
 
-use crate::blanks::trimmed;
 use std::str;
+use trace_columns::blanks::trimmed;
 
 /// Why a field has no value.
 #[derive(Clone, Copy)]

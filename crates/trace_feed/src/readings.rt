@@ -8,8 +8,7 @@ ghost use Rattle.trace_feed.specs.Readings.{AreReadings, readings_of, stronger a
 ghost use Rattle.trace_feed.specs.Rows.{reading_of};
 
 use crate::fields::Reading;
-use fixed_list::Fixed;
-use mltl_base::BzOp;
+use mltl_base::{BzOp, Fixed};
 use obs_verify::Checked;
 use std::alloc::{AllocError, Global};
 use std::marker::Model;

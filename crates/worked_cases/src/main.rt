@@ -6,10 +6,25 @@
 //! changes no stored output.
 #![tactic(auto)]
 
+mod files;
+mod host;
+mod moments;
+mod operands;
+mod outcome;
+mod piece;
+mod plain;
+mod print;
+mod request;
 mod run;
+mod scene;
+mod script;
+mod setting;
+mod step;
+mod tally;
 
+use crate::script::play;
+use crate::tally::Tally;
 use anyhow::Result;
-use case_script::{Tally, play};
 use run::Programs;
 use std::io;
 use std::process::ExitCode;

@@ -1,7 +1,12 @@
 //! One run of a program over a host in memory.
 
+use crate::host::host_of;
+use crate::outcome::Outcome;
+use crate::plain::plain_outcome;
+use crate::scene::Scenes;
+use crate::script::Run;
+use crate::setting::Setting;
 use anyhow::{Result, bail};
-use case_script::{Outcome, Run, Scenes, Setting, host_of, plain_outcome};
 use mltl_tools::{Words, c2po_main, r2u2_main};
 use std::alloc::{AllocError, Global};
 use tool_io::{Host, MemHost};

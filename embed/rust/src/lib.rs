@@ -1,7 +1,7 @@
 //! The proved monitor of Mission-time LTL: a safe wrapper of its C library, without dependencies and without `std`.
 //!
-//! A [`Monitor`] is closed when it is dropped. It is `Send`: one thread may open it and another may feed it rows. Only the
-//! allocator that is linked with the library allocates, when a monitor is opened.
+//! A [`Monitor`] is closed when it is dropped. It is `Send`: one thread may open it and another may pass it rows. Opening a
+//! monitor allocates, and nothing else does: by `malloc`, or with the feature `arena` from an array of the caller.
 //!
 //! ```no_run
 //! # fn main() -> Result<(), r2u2::Error> {
@@ -16,8 +16,21 @@
 #![no_std]
 #![warn(missing_docs)]
 
+#[cfg(feature = "arena")]
+pub mod arena;
+
+use core::cell::UnsafeCell;
 use core::ffi::c_void;
 use core::fmt;
+
+const DONE: u32 = 0;
+const REFUSED: u32 = 3;
+const REPORTS_LEFT: u32 = 5;
+const NOT_A_ROW: u32 = 6;
+const DAMAGED: u32 = 9;
+const NO_ROOM: u32 = 10;
+/// Bytes that hold each name with its zero byte.
+const NAME_BYTES: usize = 65;
 
 #[repr(C)]
 struct Struct {
@@ -52,14 +65,14 @@ impl RawFault {
     /// The result of a call with this code.
     fn unless_done(&self, code: u32) -> Result<(), Error> {
         match code {
-            0 => Ok(()),
-            3 => Err(Error::Refused {
+            DONE => Ok(()),
+            REFUSED => Err(Error::Refused {
                 kind: self.kind,
                 part: self.part,
                 place: self.place,
                 text: Text::before_zero(&self.text),
             }),
-            9 => Err(Error::Damaged),
+            DAMAGED => Err(Error::Damaged),
             _ => Err(Error::NoMemory),
         }
     }
@@ -72,12 +85,17 @@ struct RawRowFault {
     column: u32,
 }
 
-#[repr(C)]
-#[derive(Default)]
-struct RawReport {
-    time: u64,
-    output: u32,
-    word: u32,
+impl RawRowFault {
+    /// The result of a call with this code that took rows.
+    fn unless_done(&self, code: u32) -> Result<(), Error> {
+        match code {
+            DONE => Ok(()),
+            REPORTS_LEFT => Err(Error::ReportsLeft),
+            NOT_A_ROW => Err(Error::NotARow { column: self.column }),
+            NO_ROOM => Err(Error::NoRoom),
+            _ => Err(Error::TooManyRows),
+        }
+    }
 }
 
 extern "C" {
@@ -110,7 +128,18 @@ extern "C" {
     fn r2u2_version() -> u32;
     fn r2u2_name(it: *mut Struct, k: u32, buffer: *mut u8, count: usize) -> u32;
     fn r2u2_row(it: *mut Struct, numbers: *const i64, count: usize, fault: *mut RawRowFault) -> u32;
-    fn r2u2_next(it: *mut Struct, style: u32, report: *mut RawReport) -> u32;
+    fn r2u2_next(it: *mut Struct, style: u32, report: *mut Report) -> u32;
+    fn r2u2_next_many(it: *mut Struct, style: u32, reports: *mut Report, room: usize, count: *mut usize) -> u32;
+    fn r2u2_row_many(
+        it: *mut Struct,
+        style: u32,
+        numbers: *const i64,
+        count: usize,
+        reports: *mut Report,
+        room: usize,
+        batch: *mut Batch,
+        fault: *mut RawRowFault,
+    ) -> u32;
     fn r2u2_reset(it: *mut Struct) -> u32;
     fn r2u2_close_struct(it: *mut Struct);
 }
@@ -166,7 +195,7 @@ pub enum Error {
     Refused {
         /// The kind, an `r2u2_fault_kind` of `r2u2.h`.
         kind: u32,
-        /// The part of the instruction: 1 bz, 2 ft, 3 pt; 0 where it has none.
+        /// The part of the instruction: 1 bz, 2 ft, 3 pt; 0 if the fault has none.
         part: u32,
         /// The byte, instruction, output or signal, counted from 0.
         place: u64,
@@ -186,6 +215,8 @@ pub enum Error {
     TooManyRows,
     /// The program has another digest.
     Damaged,
+    /// Less room than the reports of one row may need.
+    NoRoom,
 }
 
 impl fmt::Display for Error {
@@ -197,6 +228,7 @@ impl fmt::Display for Error {
             Error::NotARow { column } => write!(out, "no number that fits in column {}", column + 1),
             Error::TooManyRows => out.write_str("too many rows"),
             Error::Damaged => out.write_str("damaged"),
+            Error::NoRoom => out.write_str("no room"),
         }
     }
 }
@@ -204,18 +236,20 @@ impl fmt::Display for Error {
 impl core::error::Error for Error {}
 
 /// The word of an output at a time.
-#[derive(Clone, Copy, Debug, PartialEq, Eq)]
+#[repr(u32)]
+#[derive(Clone, Copy, Debug, Default, PartialEq, Eq)]
 pub enum Word {
     /// The formula is false.
-    False,
+    #[default]
+    False = 0,
     /// The formula is true.
-    True,
+    True = 1,
     /// The assumption of a contract is false.
-    Inactive,
+    Inactive = 2,
     /// The assumption of a contract is true, and its guarantee is false.
-    Invalid,
+    Invalid = 3,
     /// Both formulas of a contract are true.
-    Verified,
+    Verified = 4,
 }
 
 impl fmt::Display for Word {
@@ -230,15 +264,28 @@ impl fmt::Display for Word {
     }
 }
 
-/// The verdict of an output at a time.
-#[derive(Clone, Copy, Debug, PartialEq, Eq)]
+/// The verdict of an output at a time. The library writes it: it is laid out as `struct r2u2_report`, without padding.
+#[repr(C)]
+#[derive(Clone, Copy, Debug, Default, PartialEq, Eq)]
 pub struct Report {
-    /// The output, counted from 0.
-    pub output: u32,
     /// The time in rows, the first of which has time 0.
     pub time: u64,
+    /// The output, counted from 0.
+    pub output: u32,
     /// The verdict.
     pub word: Word,
+}
+
+const _: () = assert!(size_of::<Report>() == 16 && size_of::<Struct>() == 48 && size_of::<RawFault>() == 112);
+
+/// The numbers of rows and reports of one call.
+#[repr(C)]
+#[derive(Clone, Copy, Debug, Default, PartialEq, Eq)]
+pub struct Batch {
+    /// The rows that were taken.
+    pub rows: usize,
+    /// The reports that were written.
+    pub reports: usize,
 }
 
 /// How times are reported.
@@ -268,9 +315,10 @@ pub fn version() -> u32 {
     unsafe { r2u2_version() }
 }
 
-/// An open monitor.
+/// An open monitor. Queries take `&self`, and one thread makes them at a time: it isn't `Sync`.
 pub struct Monitor {
-    it: Struct,
+    // Some queries write to the struct while they run, and leave it as it was.
+    it: UnsafeCell<Struct>,
 }
 
 impl Monitor {
@@ -296,11 +344,11 @@ impl Monitor {
         })
     }
 
-    /// Opens the program of these bytes where its SHA-256 is the digest.
+    /// Opens the program of these bytes if its SHA-256 is the digest.
     ///
     /// # Errors
     ///
-    /// `Damaged` where the program has another digest; `Refused` with its first fault, `NoMemory`.
+    /// `Damaged` if the program has another digest; `Refused` with its first fault, `NoMemory`.
     pub fn open_checked(program: &[u8], digest: &[u8; 32]) -> Result<Monitor, Error> {
         // SAFETY: as above, and the digest has its 32 bytes.
         Monitor::by(|it, fault| unsafe {
@@ -309,9 +357,9 @@ impl Monitor {
     }
 
     fn by(call: impl FnOnce(*mut Struct, *mut RawFault) -> u32) -> Result<Monitor, Error> {
-        let mut monitor = Monitor { it: Struct::closed() };
+        let mut monitor = Monitor { it: UnsafeCell::new(Struct::closed()) };
         let mut fault = RawFault::none();
-        let code = call(&raw mut monitor.it, &raw mut fault);
+        let code = allocating(|| call(monitor.it.get_mut(), &raw mut fault));
         fault.unless_done(code).map(|()| monitor)
     }
 
@@ -323,79 +371,83 @@ impl Monitor {
     pub fn bytes(program: &[u8]) -> Result<u64, Error> {
         let (mut bytes, mut fault) = (0, RawFault::none());
         // SAFETY: both results were written, and the pointer has its true count.
-        let code = unsafe { r2u2_bytes(program.as_ptr(), program.len(), &raw mut bytes, &raw mut fault) };
+        let code =
+            allocating(|| unsafe { r2u2_bytes(program.as_ptr(), program.len(), &raw mut bytes, &raw mut fault) });
         fault.unless_done(code).map(|()| bytes)
     }
 
     /// Returns how many numbers a row has.
     #[must_use]
     pub fn width(&self) -> u32 {
-        // SAFETY: the struct is that of an open monitor, here and below.
-        unsafe { r2u2_width(&raw const self.it) }
+        // SAFETY: the struct has an open monitor, here and below.
+        unsafe { r2u2_width(self.it.get()) }
     }
 
     /// Returns how many outputs there are.
     #[must_use]
     pub fn outputs(&self) -> u32 {
         // SAFETY: as above.
-        unsafe { r2u2_outputs(&raw const self.it) }
+        unsafe { r2u2_outputs(self.it.get()) }
     }
 
     /// Returns how many rows were taken.
     #[must_use]
     pub fn rows(&self) -> u64 {
         // SAFETY: as above.
-        unsafe { r2u2_rows(&raw const self.it) }
+        unsafe { r2u2_rows(self.it.get()) }
     }
 
-    /// Returns the worst-case delay of an output in rows; 0 where there is no such output.
-    pub fn delay(&mut self, output: u32) -> u32 {
-        // SAFETY: as above.
-        unsafe { r2u2_delay(&raw mut self.it, output) }
+    /// Returns the worst-case delay of an output in rows, if there is one of this number.
+    #[must_use]
+    pub fn delay(&self, output: u32) -> Option<u32> {
+        // SAFETY: as above. No other reference to the struct is used meanwhile: the monitor isn't `Sync`, here and below.
+        (output < self.outputs()).then(|| unsafe { r2u2_delay(self.it.get(), output) })
     }
 
-    /// Returns the most steps of one row, from taking it to its last report. A call that asks for one report may take three
-    /// more.
+    /// Returns the most steps of one row, from taking it to its last report.
     #[must_use]
     pub fn steps(&self) -> u64 {
         // SAFETY: as above.
-        unsafe { r2u2_steps(&raw const self.it) }
+        unsafe { r2u2_steps(self.it.get()) }
     }
 
     /// Returns the most reports that one row brings, in either style.
     #[must_use]
     pub fn most_reports(&self) -> u64 {
         // SAFETY: as above.
-        unsafe { r2u2_most_reports(&raw const self.it) }
+        unsafe { r2u2_most_reports(self.it.get()) }
     }
 
-    /// Returns whether an output is an assume-guarantee contract; else it is a formula, or there is no such output.
-    pub fn is_contract(&mut self, output: u32) -> bool {
+    /// Returns whether an output is an assume-guarantee contract, if there is one of this number; else it is a formula.
+    #[must_use]
+    pub fn is_contract(&self, output: u32) -> Option<bool> {
         // SAFETY: as above.
-        unsafe { r2u2_output_kind(&raw mut self.it, output) == 2 }
+        (output < self.outputs()).then(|| unsafe { r2u2_output_kind(self.it.get(), output) == 2 })
     }
 
     /// Returns the signals that the program stores, in order of declaration.
-    pub fn signals(&mut self) -> impl Iterator<Item = Signal> + '_ {
+    pub fn signals(&self) -> impl Iterator<Item = Signal> + '_ {
         // SAFETY: as above.
-        let count = unsafe { r2u2_signals(&raw const self.it) };
+        let count = unsafe { r2u2_signals(self.it.get()) };
         (0..count).filter_map(move |k| self.signal(k))
     }
 
     /// Returns signal `k`, counted from 0 in order of declaration, if there is one.
-    pub fn signal(&mut self, k: u32) -> Option<Signal> {
-        let (mut column, mut kind, mut buffer) = (0, 0, [0; 65]);
+    #[must_use]
+    pub fn signal(&self, k: u32) -> Option<Signal> {
+        let (mut column, mut kind, mut buffer) = (0, 0, [0; NAME_BYTES]);
         // SAFETY: as above; the results were written, and the buffer has its true count.
         let length =
-            unsafe { r2u2_signal(&raw mut self.it, k, &raw mut column, &raw mut kind, buffer.as_mut_ptr(), buffer.len()) };
+            unsafe { r2u2_signal(self.it.get(), k, &raw mut column, &raw mut kind, buffer.as_mut_ptr(), buffer.len()) };
         (length > 0).then(|| Signal { name: Text::before_zero(&buffer), column, truth: kind == 1 })
     }
 
     /// Returns the name of an output, if there is one of this number.
-    pub fn name(&mut self, output: u32) -> Option<Text> {
-        let mut buffer = [0; 65];
+    #[must_use]
+    pub fn name(&self, output: u32) -> Option<Text> {
+        let mut buffer = [0; NAME_BYTES];
         // SAFETY: as above, and the buffer has its true count.
-        let length = unsafe { r2u2_name(&raw mut self.it, output, buffer.as_mut_ptr(), buffer.len()) };
+        let length = unsafe { r2u2_name(self.it.get(), output, buffer.as_mut_ptr(), buffer.len()) };
         (length > 0).then(|| Text::before_zero(&buffer))
     }
 
@@ -408,18 +460,51 @@ impl Monitor {
     pub fn row(&mut self, numbers: &[i64]) -> Result<Reports<'_>, Error> {
         let mut fault = RawRowFault::default();
         // SAFETY: the pointer of a slice is aligned and not null, even of an empty one.
-        match unsafe { r2u2_row(&raw mut self.it, numbers.as_ptr(), numbers.len(), &raw mut fault) } {
-            0 => Ok(self.reports(Style::Each)),
-            5 => Err(Error::ReportsLeft),
-            6 => Err(Error::NotARow { column: fault.column }),
-            _ => Err(Error::TooManyRows),
-        }
+        let code = unsafe { r2u2_row(self.it.get_mut(), numbers.as_ptr(), numbers.len(), &raw mut fault) };
+        fault.unless_done(code).map(|()| self.reports(Style::Each))
+    }
+
+    /// Takes rows one after another, [`width`](Monitor::width) numbers each without gaps, and writes the reports of each to
+    /// `reports` before it takes the next. Returns how many rows and reports there were. It stops before a row whose reports
+    /// might not fit, and before a row that can't be taken: call it again with the rest of the numbers.
+    ///
+    /// # Errors
+    ///
+    /// `NoRoom` if there is less room than [`most_reports`](Monitor::most_reports); `ReportsLeft`, `NotARow` and
+    /// `TooManyRows` if the first row can't be taken. The monitor is unchanged then.
+    pub fn row_many(&mut self, numbers: &[i64], style: Style, reports: &mut [Report]) -> Result<Batch, Error> {
+        let (mut batch, mut fault) = (Batch::default(), RawRowFault::default());
+        // SAFETY: as above; slices don't overlap, and the library writes reports with the words that there are.
+        let code = unsafe {
+            r2u2_row_many(
+                self.it.get_mut(),
+                style as u32,
+                numbers.as_ptr(),
+                numbers.len(),
+                reports.as_mut_ptr(),
+                reports.len(),
+                &raw mut batch,
+                &raw mut fault,
+            )
+        };
+        fault.unless_done(code).map(|()| batch)
+    }
+
+    /// Writes the next reports of the rows so far to `reports`, as many as there is room for, and returns how many. If they
+    /// are fewer than the room, none is left.
+    pub fn next_many(&mut self, style: Style, reports: &mut [Report]) -> usize {
+        let mut count = 0;
+        // SAFETY: as above. The monitor is open, so the code is always 0.
+        unsafe {
+            r2u2_next_many(self.it.get_mut(), style as u32, reports.as_mut_ptr(), reports.len(), &raw mut count)
+        };
+        count
     }
 
     /// Resets the monitor to its state before the first row, in the memory that it has.
     pub fn reset(&mut self) {
         // SAFETY: as above. It is open, so the code is always 0.
-        unsafe { r2u2_reset(&raw mut self.it) };
+        unsafe { r2u2_reset(self.it.get_mut()) };
     }
 
     /// Returns the reports that are left.
@@ -428,14 +513,21 @@ impl Monitor {
     }
 }
 
-// SAFETY: the library proves `Send` of its struct, and each call takes the monitor by `&mut`.
+// SAFETY: the library proves `Send` of its struct, and no call is made from two threads at once.
 unsafe impl Send for Monitor {}
 
 impl Drop for Monitor {
     fn drop(&mut self) {
-        // SAFETY: the struct is that of an open monitor, or all zero.
-        unsafe { r2u2_close_struct(&raw mut self.it) }
+        // SAFETY: the struct has an open monitor, or is all zero.
+        allocating(|| unsafe { r2u2_close_struct(self.it.get_mut()) });
     }
+}
+
+/// Makes a call that allocates or frees: from an arena by one thread at a time.
+fn allocating<T>(call: impl FnOnce() -> T) -> T {
+    #[cfg(feature = "arena")]
+    let _lock = arena::lock();
+    call()
 }
 
 /// The reports of the rows so far.
@@ -456,21 +548,9 @@ impl Iterator for Reports<'_> {
     type Item = Report;
 
     fn next(&mut self) -> Option<Report> {
-        let mut report = RawReport::default();
+        let mut report = Report::default();
         // SAFETY: as above, and the report was written.
-        match unsafe { r2u2_next(&raw mut self.monitor.it, self.style as u32, &raw mut report) } {
-            0 => Some(Report { output: report.output, time: report.time, word: word_of(report.word) }),
-            _ => None,
-        }
-    }
-}
-
-fn word_of(number: u32) -> Word {
-    match number {
-        0 => Word::False,
-        1 => Word::True,
-        2 => Word::Inactive,
-        3 => Word::Invalid,
-        _ => Word::Verified,
+        let code = unsafe { r2u2_next(self.monitor.it.get_mut(), self.style as u32, &raw mut report) };
+        (code == DONE).then_some(report)
     }
 }

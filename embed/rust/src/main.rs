@@ -7,14 +7,16 @@ const ROWS: [[i64; 2]; 6] = [[1, 0], [0, 1], [1, 0], [0, 0], [0, 0], [0, 0]];
 fn main() -> Result<(), Box<dyn std::error::Error>> {
     let path = std::env::args().nth(1).ok_or("usage: r2u2 PROGRAM")?;
     let program = std::fs::read(path)?;
+    #[cfg(feature = "arena")]
+    r2u2::arena::set_memory(vec![0; 2 * r2u2::arena::open_under_bytes(&program, b"# request,grant")].leak())?;
     let mut monitor = Monitor::open_under(&program, b"# request,grant")?;
     let name = monitor.name(0).ok_or("no output")?;
     assert_eq!((monitor.width(), monitor.outputs()), (2, 1));
     let signal = monitor.signals().nth(1).ok_or("no second signal")?;
     assert_eq!((&*signal.name, signal.column, signal.truth), ("grant", 1, true));
     assert!(Monitor::bytes(&program)? > 0);
-    assert!(monitor.rows() == 0 && monitor.delay(0) > 0 && monitor.steps() > 0 && r2u2::version() > 0);
-    assert!(monitor.most_reports() == 4 && !monitor.is_contract(0));
+    assert!(monitor.rows() == 0 && monitor.delay(0) == Some(3) && monitor.delay(1).is_none() && monitor.steps() > 0 && r2u2::version() > 0);
+    assert!(monitor.most_reports() == 4 && monitor.is_contract(0) == Some(false));
     assert_eq!(monitor.row(&[0, 2]).err(), Some(Error::NotARow { column: 1 }));
     monitor.row(&ROWS[1])?;
     monitor.reset();

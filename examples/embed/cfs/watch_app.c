@@ -1,11 +1,11 @@
-/* An application of NASA's core Flight System (cFE 7): it opens a monitor at start, gives it a row at each wake-up, and sends
- * an event for each stretch of time in which a requirement is false, or a contract invalid. What begins with WATCH_ and
- * isn't defined here is the mission's. */
+/* An application of NASA's core Flight System (cFE 7): it opens a monitor at start, passes it a row at each wake-up, and sends
+ * an event for each stretch of time in which a requirement is false, or a contract invalid. The mission defines the other
+ * names that begin with WATCH_. */
 #include "cfe.h"
 
-#include "arena.h"
 #include "grant_program.h" /* by embed/constant grant_program grant.bin */
 #include "r2u2.h"
+#include "r2u2_port.h"
 #include "watch_mission.h"
 
 enum { MEMORY = 4096, MOST_EVENTS = 4 };
@@ -41,20 +41,23 @@ static void WATCH_Report(void) {
     if (Left > 0) CFE_EVS_SendEvent(WATCH_MORE_EID, CFE_EVS_EventType_ERROR, "%u further events", Left);
 }
 
-/* A row that doesn't fit is replaced by the last one that did, so that rows stay in step with wake-ups. */
+/* Passes a row at each wake-up. If it doesn't fit, passes the last row that did, so that rows stay in step with wake-ups; none
+ * before the first. A column `stale` of the specification would be set to 1 in LastGood. */
 static void WATCH_Tick(void) {
     static int64_t LastGood[WATCH_COLUMNS];
+    static bool HasGood;
     int64_t Row[WATCH_COLUMNS];
     struct r2u2_row_fault Why = {0};
     WATCH_Sample(Row); /* the last value of each signal, taken together */
     uint32_t Code = r2u2_row(&Monitor, Row, WATCH_COLUMNS, &Why);
-    if (Code == R2U2_NOT_A_ROW) {
-        CFE_EVS_SendEvent(WATCH_ROW_EID, CFE_EVS_EventType_ERROR, "column %u doesn't fit", (unsigned)Why.column);
-        Code = r2u2_row(&Monitor, LastGood, WATCH_COLUMNS, &Why);
-    } else if (Code == R2U2_DONE) {
+    if (Code == R2U2_DONE) {
         CFE_PSP_MemCpy(LastGood, Row, sizeof Row);
+        HasGood = true;
+    } else {
+        CFE_EVS_SendEvent(WATCH_ROW_EID, CFE_EVS_EventType_ERROR, "row not taken: code %u, column %u", (unsigned)Code,
+                          (unsigned)Why.column);
+        if (Code == R2U2_NOT_A_ROW && HasGood) r2u2_row(&Monitor, LastGood, WATCH_COLUMNS, &Why);
     }
-    if (Code != R2U2_DONE) CFE_EVS_SendEvent(WATCH_ROW_EID, CFE_EVS_EventType_CRITICAL, "no row: code %u", (unsigned)Code);
     WATCH_Report();
 }
 

@@ -1,5 +1,7 @@
 #include "Watch.hpp"
 
+#include <algorithm>
+
 namespace Mission {
 
 bool Watch::configure(const U8 *program, FwSizeType size) {
@@ -9,12 +11,24 @@ bool Watch::configure(const U8 *program, FwSizeType size) {
     return false;
 }
 
+void Watch::sampleIn_handler(FwIndexType port, I64 value) {
+    row[static_cast<std::size_t>(port)] = value;
+    known[static_cast<std::size_t>(port)] = true;
+}
+
+// Passes a row once each signal has a value. If it doesn't fit, passes the last row that did, so that rows stay in step with
+// calls; none before the first. A column `stale` of the specification would be set to 1 in `good`.
 void Watch::schedIn_handler(FwIndexType, U32) {
-    int64_t row[COLUMNS];
+    if (!std::all_of(known.begin(), known.end(), [](bool is) { return is; })) return;
     r2u2_row_fault why{};
-    sample(row);  // the last value of each signal, taken together
-    const uint32_t code = r2u2_row(&monitor, row, COLUMNS, &why);
-    if (code != R2U2_DONE) log_WARNING_HI_NoRow(code, why.column);
+    const uint32_t code = r2u2_row(&monitor, row.data(), COLUMNS, &why);
+    if (code == R2U2_DONE) {
+        good = row;
+        hasGood = true;
+    } else {
+        log_WARNING_HI_NoRow(code, why.column);
+        if (code == R2U2_NOT_A_ROW && hasGood) r2u2_row(&monitor, good.data(), COLUMNS, &why);
+    }
     report();
 }
 

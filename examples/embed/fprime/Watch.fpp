@@ -1,6 +1,11 @@
 module Mission {
+  @ The value of a signal: a Boolean is 0 or 1, an integer has 32 bits
+  port Sample(value: I64)
+
   @ Watches requirements over telemetry
   passive component Watch {
+    @ The last value of each signal, one port for each column of the program
+    sync input port sampleIn: [2] Sample
     sync input port schedIn: Svc.Sched
     event port eventOut
     text event port textEventOut

@@ -1,23 +1,35 @@
-/* A task of FreeRTOS that gives the monitor a row every 100 ms. The port has to save the floating-point registers of the
- * task where the compiler uses them: the calls of the library use SSE or NEON. What begins with mission_ is your own. */
+/* A task of FreeRTOS that passes the monitor a row every 100 ms. The port has to save the floating-point registers of the
+ * task: the calls of the library use SSE or NEON. You define the names that begin with mission_. */
+#include <string.h>
+
 #include "FreeRTOS.h"
 #include "task.h"
 
-#include "arena.h"
 #include "grant_program.h" /* by embed/constant grant_program grant.bin */
 #include "mission.h"
 #include "r2u2.h"
+#include "r2u2_port.h"
 
 enum { MEMORY = 4096 };
 
 static _Alignas(16) uint8_t memory[MEMORY];
 static struct r2u2 monitor;
 
+/* Passes a row. If it doesn't fit, passes the last row that did, so that rows stay in step with time; none before the first. A
+ * column `stale` of the specification would be set to 1 in `good`. */
 static void take(const int64_t *row) {
+    static int64_t good[MISSION_COLUMNS];
+    static bool has_good;
     struct r2u2_row_fault why = {0};
     struct r2u2_report report = {0};
     uint32_t code = r2u2_row(&monitor, row, MISSION_COLUMNS, &why);
-    if (code != R2U2_DONE) mission_no_row(code, why.column);
+    if (code == R2U2_DONE) {
+        memcpy(good, row, sizeof good);
+        has_good = true;
+    } else {
+        mission_no_row(code, why.column);
+        if (code == R2U2_NOT_A_ROW && has_good) r2u2_row(&monitor, good, MISSION_COLUMNS, &why);
+    }
     while (r2u2_next(&monitor, R2U2_RUNS, &report) == R2U2_DONE)
         if (report.word == R2U2_FALSE || report.word == R2U2_INVALID) mission_false(report.output, report.time);
 }

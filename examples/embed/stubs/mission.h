@@ -1,4 +1,4 @@
-/* The mission's part of freertos/watch_task.c and zephyr/watch_thread.c, over the rows of the first example. */
+/* The mission's part of freertos/watch_task.c and zephyr/watch_thread.c, over the rows of rows.h. */
 #ifndef MISSION_H
 #define MISSION_H
 

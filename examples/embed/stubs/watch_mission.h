@@ -1,4 +1,4 @@
-/* The mission's part of cfs/watch_app.c, over the rows of the first example; the second row doesn't fit. */
+/* The mission's part of cfs/watch_app.c, over the rows of rows.h. */
 #ifndef WATCH_MISSION_H
 #define WATCH_MISSION_H
 
@@ -13,9 +13,7 @@ void WATCH_AppMain(void);
 
 static inline void WATCH_Sample(int64_t *row) {
     static unsigned next;
-    memcpy(row, rows[next], sizeof rows[next]);
-    if (next == 4) row[0] = 2;
-    next++;
+    memcpy(row, rows[next++], sizeof rows[0]);
 }
 
 int main(void) {

@@ -1,7 +1,9 @@
 // Stand-ins for the calls of ROS 2 that ros2/watch_node.cpp makes: a node hears the rows of the first example, and prints
-// what it publishes. The parameter `program` is the first argument.
+// what it publishes. Its topic `grant` has no value before the first two ticks, and `level` is always 7. The parameter
+// `program` is the first argument.
 #pragma once
-#include <chrono>
+#include <cstdint>
+#include <cstdio>
 #include <functional>
 #include <iostream>
 #include <memory>
@@ -9,9 +11,11 @@
 #include <utility>
 #include <vector>
 
-#include "rows.h"
 #include "std_msgs/msg/bool.hpp"
+#include "std_msgs/msg/int32.hpp"
 #include "std_msgs/msg/string.hpp"
+
+#define RCLCPP_FATAL(logger, ...) (std::fprintf(stderr, "%s: ", (logger).c_str()), std::fprintf(stderr, __VA_ARGS__), std::fputs("\n", stderr))
 
 namespace rclcpp {
 
@@ -22,10 +26,9 @@ struct TimerBase {
     std::function<void()> call;
 };
 
-template <class Message>
-struct Subscription {
-    using SharedPtr = std::shared_ptr<Subscription>;
-    std::function<void(const Message &)> call;
+struct SubscriptionBase {
+    using SharedPtr = std::shared_ptr<SubscriptionBase>;
+    std::function<void(std::int64_t)> call;
 };
 
 template <class Message>
@@ -42,9 +45,13 @@ public:
     Value declare_parameter(const std::string &, const Value &) { return program; }
 
     template <class Message, class Call>
-    typename Subscription<Message>::SharedPtr create_subscription(const std::string &name, int, Call call) {
-        auto made = std::make_shared<Subscription<Message>>();
-        made->call = call;
+    SubscriptionBase::SharedPtr create_subscription(const std::string &name, int, Call call) {
+        auto made = std::make_shared<SubscriptionBase>();
+        made->call = [call](std::int64_t number) {
+            Message message;
+            message.data = static_cast<decltype(message.data)>(number);
+            call(message);
+        };
         topics.emplace_back(name, made);
         return made;
     }
@@ -62,19 +69,31 @@ public:
     }
 
     void run() {
+        static const std::int64_t rows[6][2] = {{1, 0}, {0, 1}, {1, 0}, {0, 0}, {0, 0}, {0, 0}};
+        timer->call();
+        tell("request", 1);
+        timer->call();
         for (const auto &row : rows) {
-            for (const auto &topic : topics) topic.second->call({row[topic.first == "grant"] != 0});
+            tell("request", row[0]);
+            tell("grant", row[1]);
+            tell("level", 7);
             timer->call();
         }
     }
 
 private:
-    std::vector<std::pair<std::string, Subscription<std_msgs::msg::Bool>::SharedPtr>> topics;
+    void tell(const std::string &name, std::int64_t number) {
+        for (const auto &topic : topics)
+            if (topic.first == name) topic.second->call(number);
+    }
+
+    std::vector<std::pair<std::string, SubscriptionBase::SharedPtr>> topics;
     TimerBase::SharedPtr timer;
 };
 
 inline void init(int count, char **arguments) { program = count > 1 ? arguments[1] : ""; }
 inline void spin(const std::shared_ptr<Node> &node) { node->run(); }
 inline void shutdown() {}
+inline std::string get_logger(const std::string &name) { return name; }
 
 }  // namespace rclcpp

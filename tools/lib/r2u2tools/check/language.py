@@ -1,7 +1,6 @@
 """What an editor asks of a specification: the name under the pointer, where it is declared, and what may be typed."""
 
 import json
-import sys
 import tempfile
 from dataclasses import dataclass
 from pathlib import Path
@@ -10,9 +9,8 @@ from typing import Any, Dict, Iterator, List, Optional, Tuple
 from r2u2tools.check.faults import Report, ask, spread
 from r2u2tools.check.source import RESERVED, Item, Token
 from r2u2tools.common.cli import Trouble
-from r2u2tools.common.programs import ran
+from r2u2tools.common.programs import ran, tool
 
-BUDGET = Path(__file__).resolve().parents[3] / "budget"
 SECONDS = 20
 # What keywords and operators mean, each in a line, and what is typed for those with arguments.
 MEANINGS = {
@@ -199,7 +197,7 @@ def cost_of(text: str, name: str) -> str:
         spec = Path(folder, "hover.c2po")
         spec.write_text(text, encoding="utf-8", errors="surrogateescape")
         try:
-            _, out, _ = ran([sys.executable, str(BUDGET), "--json", "--top", "0", str(spec)], timeout=SECONDS)
+            _, out, _ = ran([*tool("budget"), "--json", "--top", "0", str(spec)], timeout=SECONDS)
             outputs = json.loads(out)["outputs"] if out else []
         except (Trouble, ValueError, KeyError, TimeoutError):
             return ""

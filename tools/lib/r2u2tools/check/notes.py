@@ -6,10 +6,10 @@ from functools import lru_cache
 from pathlib import Path
 from typing import Callable, Dict, FrozenSet, List, Optional, Tuple
 
+from r2u2tools.common.programs import HOME
 from r2u2tools.check.source import RESERVED, Item, Token, read
 
-# Beside the tools: in the repository, and under share/r2u2 of what was installed.
-PAGE = Path(__file__).resolve().parents[4] / "docs/reference/messages.md"
+PAGE = HOME / "docs/reference/messages.md"
 CODE = re.compile(r"`([^`]+)`")
 
 

@@ -71,7 +71,7 @@ def plain(text: str) -> str:
 def words(doc: Optional[str], **more: Any) -> Words:
     """A reader of the command line: its text for --help, and the forms that it shows, are those at the top of the tool."""
     head, usage, body = (doc or "").split("\n\n", 2)
-    forms = re.sub(r"^(usage: | {7})\w+", lambda found: found[1] + "%(prog)s", usage, flags=re.M)
+    forms = re.sub(r"^(usage: | {7})[\w-]+", lambda found: found[1] + "%(prog)s", usage, flags=re.M)
     return Words(
         prog=name(),
         usage=forms.removeprefix("usage: "),

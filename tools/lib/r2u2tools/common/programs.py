@@ -5,26 +5,42 @@ from __future__ import annotations
 import os
 import shutil
 import subprocess
+import sys
 from pathlib import Path
 from typing import Any, Sequence
 
-from r2u2tools.common.cli import Trouble
+from r2u2tools.common.cli import Trouble, note
 
-# The repository, or the folder share/r2u2 of what `make install` put under a PREFIX.
-HOME = Path(__file__).resolve().parents[4]
+LIBRARY = Path(__file__).resolve().parents[2]
+# The repository, or the folder share/r2u2 that `make install` or pip filled.
+HOME = LIBRARY.parents[1] if LIBRARY.name == "lib" else Path(sys.prefix, "share/r2u2")
 BUILT = HOME / "build"
 INSTALLED = not (HOME / "Makefile").is_file()
 OWN = HOME.parent.parent / "bin" if INSTALLED else BUILT
+# The programs that the tool has said to be unproved.
+noted = set[str]()
 
 
 def program(name: str) -> str:
-    """The path of r2u2 or c2po: the variable R2U2 or C2PO, else build/ or bin/ of the tool's PREFIX, else one on the path."""
+    """Returns the path of r2u2 or c2po: the variable R2U2 or C2PO, else build/ or bin/ of the tool's PREFIX, else one on the path,
+    else the unproved one of build/unproved/, which it notes once on the error output."""
     asked = os.environ.get(name.upper())
-    path = asked or next((it for it in (str(OWN / name), shutil.which(name)) if it and os.access(it, os.X_OK)), None)
-    if not path or not os.access(path, os.X_OK):
-        where = asked or f"{name} in {OWN if INSTALLED else 'build/'} or on the path"
-        raise Trouble(f"no program {where}: `make` builds it, and {name.upper()} may name another")
+    unproved = str(BUILT / "unproved" / f"{name}.run")
+    places = [asked] if asked else [str(OWN / name), shutil.which(name), unproved]
+    path = next((place for place in places if place and os.access(place, os.X_OK)), None)
+    if not path:
+        where = asked or f"{name} in {OWN if INSTALLED else 'build/ or build/unproved/'} or on the path"
+        raise Trouble(f"no program {where}: `make` builds it, `make unproved` without a proof, and {name.upper()} may name another")
+    if path == unproved and not asked and name not in noted:
+        noted.add(name)
+        note(f"{name} is unproved")
     return path
+
+
+def tool(name: str) -> list[str]:
+    """The beginning of a command that runs another of these tools, by the same interpreter."""
+    load = f"import sys; sys.path.insert(0, {str(LIBRARY)!r}); from r2u2tools.__main__ import main; main()"
+    return [sys.executable, "-Bc", load, name]
 
 
 def ran(words: Sequence[str], **more: Any) -> tuple[int, bytes, str]:

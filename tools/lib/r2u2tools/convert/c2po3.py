@@ -9,14 +9,15 @@ from __future__ import annotations
 
 import re
 import tempfile
-from dataclasses import dataclass, field
+from dataclasses import dataclass, field, replace
 from pathlib import Path
 from typing import Iterator, Optional
 
 from r2u2tools.common.programs import program, ran
+from r2u2tools.convert.scaling import Scales, Unscaled, entry, scaled
 
-SECTIONS = ("STRUCT", "INPUT", "DEFINE", "FTSPEC", "PTSPEC")
-FOREIGN = {"ATOMIC": "atomic checkers: compare in the formula", "ENUM": "enumerations: define a number for each name"}
+SECTIONS = ("STRUCT", "INPUT", "DEFINE", "ATOMIC", "FTSPEC", "PTSPEC")
+FOREIGN = {"ENUM": "enumerations: define a number for each name"}
 TOKEN = re.compile(
     r"(?P<blank>[ \t\r\n]+)|(?P<comment>--[^\n]*)|(?P<float>[0-9]+\.[0-9]+)|(?P<word>[A-Za-z_]\w*)|(?P<number>[0-9]+)"
     r"|(?P<sign><->|->|=>|:=|==|!=|<=|>=|<<|>>|&&|\|\||[(){}\[\],;:.!<>+\-*/%~&|^])|(?P<other>.)",
@@ -31,6 +32,16 @@ EDGES = ("", "(", ")", "{", "}", ",")
 UNSURE = {"X": "no next here: F[1,1] is the row after", "T": "no trigger here: write it by S and !"}
 BITS = ("~", "&", "|", "^", "<<", ">>")
 WIDEST = 1048576
+
+
+ATOMIC = re.compile(
+    r"(\w+) (?::=|:) (\w+) \( (\w+)(?: , ((?:- )?[0-9.]+))? \) (==|!=|<=|>=|<|>) ((?:- )?(?:[0-9.]+|[A-Za-z_]\w*))", re.ASCII
+)
+# Of each filter of atomic checkers: the end of its signal's name, and the keys of its entry.
+FILTERS = {
+    "rate": ("rate", 'take = "difference"\n'), "movavg": ("mean", 'take = "mean"\nwindow = {constant}\n'),
+    "abs_diff_angle": ("angle", 'offset = -{constant}\nwrapped = 360\ntake = "absolute"\n'), "int": ("", ""), "float": ("", ""), "bool": ("", ""),
+}
 
 
 class Unfit(Exception):
@@ -63,7 +74,7 @@ class Item:
     def names(self) -> list[str]:
         """Returns the names that the item declares."""
         words = [token.text for token in self.tokens]
-        sign = ":=" if self.section == "DEFINE" else ":"
+        sign = ":=" if self.section in ("DEFINE", "ATOMIC") else ":"
         if self.section in ("FTSPEC", "PTSPEC") or sign not in words:
             return []
         return [word for word in words[: words.index(sign)] if word != ","]
@@ -253,10 +264,15 @@ class Expression:
 class Importer:
     """Takes one specification."""
 
-    def __init__(self, text: str, mission: Optional[int] = None) -> None:
+    def __init__(self, text: str, mission: Optional[int] = None, scales: Optional[Scales] = None) -> None:
         self.items, self.mission = list(items_of(text)), mission
+        self.scales = scales or Scales()
         self.lost: dict[str, int] = {}
         self.structs: set[str] = set()
+        # The kinds of inputs, definitions that are decimals, and the signals of atomic checkers with their entries.
+        self.inputs: dict[str, str] = {}
+        self.decimals: dict[str, str] = {}
+        self.derived: dict[str, str] = {}
 
     def run(self) -> str:
         """Returns the text in this language, which c2po accepts."""
@@ -273,7 +289,7 @@ class Importer:
         return text
 
     def translate(self) -> None:
-        self.lost, self.structs = {}, set()
+        self.lost, self.structs, self.inputs, self.decimals, self.derived = {}, set(), {}, {}, {}
         for item in self.items:
             item.why, item.text = "", ""
             if not item.tokens:
@@ -282,6 +298,9 @@ class Importer:
                 item.text = self.taken(item)
                 if item.section == "STRUCT":
                     self.structs |= set(item.names())
+            except Unscaled as fault:
+                item.why = str(fault)
+                self.lost.update((name, item.line) for name in item.names())
             except Unfit as unfit:
                 item.why, item.line = str(unfit), unfit.line
                 self.lost.update((name, unfit.line) for name in item.names())
@@ -298,13 +317,80 @@ class Importer:
                 raise Unfit(f"the character {token.text!r}", token.line)
             if token.text in self.lost and token.text not in item.names():
                 raise Unfit(f"it uses {token.text}, of line {self.lost[token.text]}", token.line)
-            if token.text == "float":
-                raise Unfit("float: scale it to integers, as millivolts", token.line)
         if item.refusal:
             raise Unfit(item.refusal, first.line)
         if item.section in ("STRUCT", "INPUT"):
             return self.declaration(item)
+        if item.section == "ATOMIC":
+            return self.atomic(item)
         return self.formula(item)
+
+    def whole_type(self, item: Item, k: int) -> str:
+        """Returns `int` in the place of `float`, at a place of a declaration, if each of its names has a scale."""
+        tokens, names = item.tokens, list[str]()
+        for token in reversed(tokens[:k]):
+            if token.text in (";", "{"):
+                break
+            names += [token.text] if token.kind == "word" else []
+        lost = next((name for name in reversed(names) if name not in self.scales.factors), "")
+        if lost:
+            raise Unfit(f"float: --scale {lost}=1000, or --signals FILE, makes {lost} an integer", tokens[k].line)
+        if item.section == "STRUCT" and len(set(self.scales.factors.values())) > 1:
+            raise Unfit("float in a struct: all scales have to be the same then", tokens[k].line)
+        return "int"
+
+    def atomic(self, item: Item) -> str:
+        """Returns an atomic checker as an input, whose signal is an entry of --write-signals, and a definition."""
+        line = item.tokens[0].line
+        found = ATOMIC.fullmatch(" ".join(token.text for token in item.tokens))
+        if not found:
+            raise Unfit("atomic checkers have the form NAME := FILTER(SIGNAL) COMPARISON NUMBER here", line)
+        name, kind, signal, constant, sign, bound = (part or "" for part in found.groups())
+        if kind not in FILTERS:
+            raise Unfit(f"no filter {kind} here", line)
+        if (kind in ("movavg", "abs_diff_angle")) != bool(constant) or signal not in self.inputs:
+            raise Unfit(f"{kind} of {signal} isn't understood", line)
+        if kind == "bool":
+            if sign not in ("==", "!=") or bound not in ("0", "1", "true", "false"):
+                raise Unfit(f"bool {sign} {bound} isn't understood", line)
+            return f"DEFINE\n  {name} := {'' if (sign == '==') == (bound in ('1', 'true')) else '!'}{signal};"
+        label, head = signal, ""
+        if FILTERS[kind][0]:
+            label, head = self.derive(kind, signal, constant, line)
+        text = self.formula(Item("DEFINE", self.tokens_of(item, [name, ":=", label, sign, *bound.split()])))
+        return f"{head}DEFINE\n  {text};"
+
+    def derive(self, kind: str, signal: str, constant: str, line: int) -> tuple[str, str]:
+        """Returns the input for a filter of a signal, and its declaration if it is new."""
+        if not self.scales.writes:
+            raise Unfit(f"{kind}: --write-signals FILE says where its signal goes", line)
+        if kind == "movavg" and not constant.isdigit():
+            raise Unfit(f"movavg over {constant}: a number of rows is needed", line)
+        end, keys = FILTERS[kind]
+        constant = constant.replace(" ", "")
+        label = "_".join([signal, end, *([re.sub("[^0-9]", "_", constant)] if constant else [])])
+        by = self.scales.factors.get(signal)
+        if by is not None:
+            self.scales.factors[label] = by
+            keys = f"scale = {by}\n{keys}"
+        head = "" if label in self.derived else f"INPUT\n  {label}: int;\n"
+        self.derived[label] = f"[{label}]\nfrom = \"{signal}\"\n" + keys.format(constant=constant).replace("--", "")
+        return label, head
+
+    def tokens_of(self, item: Item, texts: list[str]) -> list[Token]:
+        """Returns texts as tokens at the line of an item."""
+        return [Token(TOKEN.match(text).lastgroup or "", text, item.tokens[0].line) for text in texts]  # type: ignore[union-attr]
+
+    def rescaled(self, tokens: list[Token]) -> list[Token]:
+        """Returns tokens in which comparisons with scaled signals have scaled constants."""
+        tokens = [replace(it, text=self.decimals[it.text], kind="float") if it.text in self.decimals else it for it in tokens]
+        parts = scaled([token.text for token in tokens], self.scales)
+        return [part for token, texts in zip(tokens, parts) for part in ([token] if texts == [token.text] else self.tokens_of(Item("", [token]), texts))]
+
+    def entries(self) -> list[str]:
+        """Returns an entry of a file of signals for each input that isn't in one."""
+        known, factors = self.scales.known, self.scales.factors
+        return [entry(name, kind, factors.get(name)) for name, kind in self.inputs.items() if name not in known] + list(self.derived.values())
 
     def declaration(self, item: Item) -> str:
         """Returns an item of STRUCT or INPUT, whose forms are alike."""
@@ -314,9 +400,12 @@ class Importer:
             if token.text == "<" and item.section == "INPUT":
                 raise Unfit("sets have no type of inputs", token.line)
         text = ""
-        for token in item.tokens:
-            glued = not text or token.text in ",:;.<>" or text.endswith("<")
-            text += token.text if glued else f" {token.text}"
+        for k, token in enumerate(item.tokens):
+            word = self.whole_type(item, k) if token.text == "float" else token.text
+            glued = not text or word in ",:;.<>" or text.endswith("<")
+            text += word if glued else f" {word}"
+        if item.section == "INPUT":
+            self.inputs.update((name, item.tokens[-1].text) for name in item.names())
         return text
 
     def formula(self, item: Item) -> str:
@@ -328,6 +417,10 @@ class Importer:
             raise Unfit("a definition is NAME := EXPRESSION", item.tokens[0].line)
         head = f"{words[0]} :{'=' * (sign == ':=')} ".replace(" : ", ": ") if named else ""
         body = item.tokens[2:] if named else item.tokens
+        if item.section == "DEFINE" and len(body) == 1 and body[0].kind == "float":
+            self.decimals[words[0]] = body[0].text
+            return f"-- {words[0]} := {body[0].text} is in the comparisons"
+        body = self.rescaled(body)
         depth, cuts = 0, [-1]
         for k, token in enumerate(body):
             depth += (token.text in "([{") - (token.text in ")]}")
@@ -344,10 +437,16 @@ class Importer:
         for item in self.items:
             lines += item.comments
             if item.tokens and not item.why:
-                if item.section != section:
+                first = len(lines) + 1
+                if item.section == "ATOMIC":
+                    lines += item.text.splitlines()
+                    section = "DEFINE"
+                    places.append((item, (first, len(lines))))
+                    continue
+                if item.section != section and not item.text.startswith("--"):
                     section = item.section
                     lines.append(section)
-                lines.append(f"  {item.text};")
+                lines.append(f"  {item.text}" + ";" * (not item.text.startswith("--")))
                 places.append((item, (len(lines), len(lines))))
             elif item.tokens:
                 source = " ".join(token.text for token in item.tokens)

@@ -13,6 +13,7 @@ from fractions import Fraction
 from typing import Any, Optional
 
 from r2u2tools.common.cli import Trouble
+from r2u2tools.convert.scaling import Scales, Unscaled, entry, scaled
 from r2u2tools.telemetry.numbers import fraction
 
 WIDEST = 1048576
@@ -30,25 +31,44 @@ CONDITIONS = {
 }
 BOOLS, INTEGERS = re.compile(r"bool(ean)?", re.I), re.compile(r"u?int(eger)?(8|16|32)?|unsigned integer", re.I)
 
-# By timing: the formula in the whole run, from a first row on, and from the rows of q on, up to r where there is one.
+# By timing: the formula in the whole run, from a first row on, and from the rows of q on, up to r where there is one; s is
+# the stop of until and before.
+PENDING = "(!{p} && !{r}) S[0,1048576] ({q} && !{p} && !{r})"
+UNMET = "(!{p} && !{s}) S[0,1048576] ({q} && !{p} && !{s})"
+UNMET_UNTIL = "(!{p} && !{s} && !{r}) S[0,1048576] ({q} && !{p} && !{s} && !{r})"
 GLOBALLY = {
+    "next": "O[1,1] first -> {p}", "until": "H[0,1048576] !{s} -> {p}",
+    "before": "{s} -> !first && !(O[1,1] (" + UNMET.replace("{q}", "first") + "))",
     "always": "{p}", "immediately": "first -> {p}", "within": "O[{n},{n}] first -> O[0,{n}] {p}", "for": "O[0,{n}] first -> {p}",
     "after": "(O[0,{n}] first -> !{p}) && (O[{m},{m}] first -> {p})",
 }
 BEFORE = {
+    "next": "O[1,1] first && H[0,1] !{r} -> {p}", "until": "H[0,1048576] (!{r} && !{s}) -> {p}",
+    "before": "{s} && !{r} -> !first && !(O[1,1] (" + UNMET_UNTIL.replace("{q}", "first") + "))",
+    "eventually": "{r} -> !(O[1,1] (" + PENDING.replace("{q}", "first") + "))",
     "always": "H[0,1048576] !{r} -> {p}", "immediately": "first && !{r} -> {p}",
     "within": "O[{n},{n}] first && H[0,{n}] !{r} -> O[0,{n}] {p}", "for": "O[0,{n}] first && H[0,{n}] !{r} -> {p}",
     "after": "(O[0,{n}] first && H[0,{n}] !{r} -> !{p}) && (O[{m},{m}] first && H[0,{m}] !{r} -> {p})",
 }
 AFTER = {
+    "next": "O[1,1] {q} -> {p}", "until": "!{s} S[0,1048576] ({q} && !{s}) -> {p}", "before": "{s} -> !{q} && !(O[1,1] (" + UNMET + "))",
     "always": "O[0,1048576] {q} -> {p}", "immediately": "{q} -> {p}", "within": "O[{n},{n}] {q} -> O[0,{n}] {p}", "for": "O[0,{n}] {q} -> {p}",
     "after": "(O[0,{n}] {q} -> !{p}) && (O[{m},{m}] {q} -> {p})",
 }
 UNTIL = {
+    "next": "O[1,1] {q} && H[0,1] !{r} -> {p}", "until": "(!{r} && !{s}) S[0,1048576] ({q} && !{r} && !{s}) -> {p}",
+    "before": "{s} && !{r} -> !{q} && !(O[1,1] (" + UNMET_UNTIL + "))", "eventually": "{r} -> !(O[1,1] (" + PENDING + "))",
     "always": "!{r} S[0,1048576] ({q} && !{r}) -> {p}", "immediately": "{q} && !{r} -> {p}",
     "within": "O[{n},{n}] {q} && H[0,{n}] !{r} -> O[0,{n}] {p}", "for": "!{r} S[0,{n}] ({q} && !{r}) -> {p}",
     "after": "(!{r} S[0,{n}] ({q} && !{r}) -> !{p}) && (O[{m},{m}] {q} && H[0,{m}] !{r} -> {p})",
 }
+
+
+# By scope of `only`: the scope outside of it, and what a timing becomes there, where the requirement is denied.
+OUTSIDE = {"onlyin": "notin", "onlybefore": "from", "onlyafter": "upto"}
+DENIED = {"eventually": "always", "immediately": "immediately", "next": "next", "within": "for", "for": "within"}
+# Functions of FRET with the number of their arguments.
+FUNCTIONS = {"preBool": 2, "persisted": 2, "occurred": 2, "absReal": 1, "absInt": 1, "abs": 1}
 
 
 class Unfit(Exception):
@@ -62,6 +82,7 @@ class Kinds:
     found: dict[str, str] = field(default_factory=dict)
     given: dict[str, str] = field(default_factory=dict)
     defined: set[str] = field(default_factory=set)
+    scales: Scales = field(default_factory=Scales)
 
     def take(self, model: dict[str, Any]) -> None:
         """Takes what the file says of a variable."""
@@ -77,10 +98,16 @@ class Kinds:
         kind = self.given.get(name) or (self.found.get(name) if numeric is None else "int" if numeric else "bool")
         if kind is None:
             raise Unfit(f"whether {name} is a number isn't given")
+        if name in self.scales.factors:
+            kind = "int"
         if kind not in ("bool", "int"):
-            raise Unfit(f"{name} is {kind}: scale it to integers")
+            raise Unfit(f"{name} is {kind}: --scale {name}=1000, or --signals FILE, makes it an integer")
         if self.found.setdefault(name, kind) != kind:
             raise Unfit(f"{name} is used as bool and as int")
+
+    def entries(self) -> list[str]:
+        """Returns an entry of a file of signals for each input that isn't in one."""
+        return [entry(name, kind, self.scales.factors.get(name)) for name, kind in self.found.items() if name not in self.scales.known]
 
 
 def kind_of(text: str) -> str:
@@ -103,10 +130,15 @@ def formula(text: str, kinds: Kinds) -> str:
     tokens = [SIGNS.get(token, token) for token in tokens_of(text)]
     while bracketed(tokens):
         tokens = tokens[1:-1]
+    try:
+        parts = scaled(without_functions(tokens, kinds), kinds.scales)
+    except Unscaled as fault:
+        raise Unfit(str(fault)) from None
+    tokens = [token for part in parts for token in part]
     refuse_doubts(tokens)
     for k, token in enumerate(tokens):
         if "." in token and token != ".":
-            raise Unfit(f"{token} isn't an integer: scale it")
+            raise Unfit(f"{token} isn't an integer, and no signal there has a scale: --scale or --signals")
         if token in ("xor", "^", ".", ",", "if", "then") or token in RESERVED:
             raise Unfit(f"{token} isn't in the language here")
         if re.match(r"[A-Za-z_]", token) and token not in ("true", "false"):
@@ -116,6 +148,65 @@ def formula(text: str, kinds: Kinds) -> str:
     if not tokens:
         raise Unfit("an empty formula")
     return tokens[0] if len(tokens) == 1 else f"({spaced(tokens)})"
+
+
+def without_functions(tokens: list[str], kinds: Kinds) -> list[str]:
+    """Returns the tokens with each call of a known function as one token in brackets."""
+    found, place = list[str](), 0
+    while place < len(tokens):
+        name = tokens[place]
+        if name not in FUNCTIONS or tokens[place + 1 : place + 2] != ["("]:
+            found.append(name)
+            place += 1
+            continue
+        parts, place = arguments(tokens, place + 1)
+        if len(parts) != FUNCTIONS[name]:
+            raise Unfit(f"{name} has {FUNCTIONS[name]} argument{'s' * (FUNCTIONS[name] > 1)}")
+        if name.startswith("abs"):
+            text, place = absolute(name, parts[0], tokens, found, place, kinds)
+        else:
+            text = of_the_past(name, parts, kinds)
+        found.append(text)
+    return found
+
+
+def arguments(tokens: list[str], place: int) -> tuple[list[list[str]], int]:
+    """Returns the arguments of a call whose bracket opens at a place, and the place after it."""
+    parts, depth = [list[str]()], 0
+    for k in range(place, len(tokens)):
+        token = tokens[k]
+        depth += (token == "(") - (token == ")")
+        if not depth:
+            return parts, k + 1
+        if token == "," and depth == 1:
+            parts.append([])
+        elif k > place:
+            parts[-1].append(token)
+    raise Unfit("a bracket isn't closed")
+
+
+def of_the_past(name: str, parts: list[list[str]], kinds: Kinds) -> str:
+    """Returns preBool, persisted or occurred as a formula in brackets."""
+    body, head = formula(" ".join(parts[1]), kinds), " ".join(parts[0])
+    if name == "preBool":
+        if head not in ("true", "false"):
+            raise Unfit(f"preBool begins with {head}, which isn't true or false")
+        return f"(O[1,1] {body})" if head == "false" else f"!(O[1,1] !{body})"
+    if not head.isdigit() or int(head) >= WIDEST:
+        raise Unfit(f"{name}: {head} isn't a number of rows")
+    return f"({'H' if name == 'persisted' else 'O'}[0,{head}] {body})"
+
+
+def absolute(name: str, body: list[str], tokens: list[str], before: list[str], place: int, kinds: Kinds) -> tuple[str, int]:
+    """Returns a comparison of an absolute value with a number that isn't negative, and the place after it."""
+    sign, bound, after = (tokens[place : place + 3] + ["", "", ""])[:3]
+    edges = ("", "(", ")", "&&", "||", "->", "<->")
+    if sign not in ("<", "<=", ">", ">=") or not re.fullmatch(r"[0-9.]+", bound) or after not in edges or (before[-1:] or [""])[0] not in edges:
+        raise Unfit(f"{name} is taken where it is compared with a number on its right alone")
+    body = without_functions(body, kinds)
+    join = "&&" if sign.startswith("<") else "||"
+    text = f"({' '.join(body)}) {sign} {bound} {join} 0 - ({' '.join(body)}) {sign} {bound}"
+    return formula(text, kinds), place + 2
 
 
 def refuse_doubts(tokens: list[str]) -> None:
@@ -174,23 +265,34 @@ class Requirement:
 
     label: str
     text: str
+    id: str = ""
     definitions: list[str] = field(default_factory=list)
     formula: str = ""
     why: str = ""
 
 
+def label_of(id: str, labels: set[str]) -> str:
+    """Returns a label for the id of a requirement, unlike those so far."""
+    label = re.sub(r"[^A-Za-z0-9_]", "_", id)[:56]
+    label = label if re.match(r"[A-Za-z_]", label) and label not in RESERVED else f"r_{label}"
+    while label in labels:
+        label += "_"
+    labels.add(label)
+    return label
+
+
 class Importer:
     """Takes the requirements of one file."""
 
-    def __init__(self, document: Any, rate: Optional[Fraction]) -> None:
+    def __init__(self, document: Any, rate: Optional[Fraction], kinds: Kinds) -> None:
         if isinstance(document, dict):
             records, models = document.get("requirements"), document.get("modelDocs") or document.get("variables") or []
         else:
             records, models = document, []
         if not isinstance(records, list) or not all(isinstance(it, dict) for it in records):
-            raise Trouble("not FRET's JSON: a list of requirements, or an object that has one")
+            raise Trouble("not FRET's JSON: a list of requirements, an object that has one, or a component for Ogma")
         self.records: list[dict[str, Any]] = records
-        self.rate, self.kinds = rate, Kinds()
+        self.rate, self.kinds = rate, kinds
         self.labels: set[str] = set()
         for it in models if isinstance(models, list) else []:
             if isinstance(it, dict):
@@ -199,17 +301,10 @@ class Importer:
     def run(self) -> list[Requirement]:
         return [self.one(record, k) for k, record in enumerate(self.records)]
 
-    def label_of(self, record: dict[str, Any], k: int) -> str:
-        label = re.sub(r"[^A-Za-z0-9_]", "_", str(record.get("reqid") or f"requirement_{k}"))[:56]
-        label = label if re.match(r"[A-Za-z_]", label) and label not in RESERVED else f"r_{label}"
-        while label in self.labels:
-            label += "_"
-        self.labels.add(label)
-        return label
-
     def one(self, record: dict[str, Any], k: int) -> Requirement:
         """Returns one requirement, or why it isn't taken."""
-        made = Requirement(self.label_of(record, k), " ".join(str(record.get("fulltext", "")).split()))
+        id = " ".join(str(record.get("reqid") or "").split())
+        made = Requirement(label_of(str(record.get("reqid") or f"requirement_{k}"), self.labels), " ".join(str(record.get("fulltext", "")).split()), id)
         kept = dict(self.kinds.found)
         try:
             meaning = record.get("semantics")
@@ -229,9 +324,24 @@ class Importer:
         timing, count = self.timing_of(made, meaning)
         if timing == "never":
             timing, p = "always", f"!{p}"
+        kind = kind_of_scope(meaning)
+        if kind in OUTSIDE:
+            if timing not in DENIED or p.startswith("!"):
+                raise Unfit(f"the scope {kind} with the timing {meaning.get('timing')} has more than one meaning")
+            timing, p = DENIED[timing], f"!{p}"
         table, q, r = self.scope_of(made, meaning)
-        text = table[timing].format(p=p, q=q, r=r, n=count, m=count + 1)
+        if timing not in table:
+            raise Unfit(f"{timing} in a scope without an end is never decided: write within")
+        s = self.stop_of(made, meaning) if timing in ("until", "before") else ""
+        text = table[timing].format(p=p, q=q, r=r, s=s, n=count, m=count + 1)
         made.formula = text.replace("!!", "")
+
+    def stop_of(self, made: Requirement, meaning: dict[str, Any]) -> str:
+        """Returns the condition that ends until or before."""
+        text = str(meaning.get("stop_condition") or "")
+        if not text:
+            raise Unfit("its timing has no stop_condition")
+        return self.define(made, f"{made.label}_s", formula(text, self.kinds))
 
     def define(self, made: Requirement, name: str, text: str) -> str:
         made.definitions.append(f"{name} := {text};")
@@ -241,7 +351,7 @@ class Importer:
         """Returns the timing, and its duration in rows."""
         timing = str(meaning.get("timing") or "null").lower()
         timing = "eventually" if timing == "null" else timing
-        if timing in ("always", "never", "immediately"):
+        if timing in ("always", "never", "immediately", "next", "eventually", "until", "before"):
             return timing, 0
         if timing not in ("within", "for", "after"):
             raise Unfit(f"the timing {timing} isn't in the tables")
@@ -280,11 +390,8 @@ class Importer:
 
     def scope_of(self, made: Requirement, meaning: dict[str, Any]) -> tuple[dict[str, str], str, str]:
         """Returns the table of the scope, and what opens and closes it."""
-        scope = meaning.get("scope")
-        kind = str((scope or {}).get("type") if isinstance(scope, dict) else scope or "null").lower()
-        for flag in ("exclusive", "required"):
-            if isinstance(scope, dict) and scope.get(flag):
-                raise Unfit(f"the scope {kind} with {flag} isn't in the tables")
+        kind = kind_of_scope(meaning)
+        kind = OUTSIDE.get(kind, kind)
         label, inside, end = made.label, "", ""
         if kind in ("in", "notin"):
             mode = self.mode_of(made, meaning)
@@ -296,6 +403,13 @@ class Importer:
             mode = self.mode_of(made, meaning)
             left = self.define(made, f"{label}_left", f"!{mode} && O[1,1] {mode}")
             inside = f"O[0,{WIDEST}] {left}"
+        elif kind == "from":
+            mode = self.mode_of(made, meaning)
+            inside = f"O[0,{WIDEST}] {mode}"
+        elif kind == "upto":
+            mode = self.mode_of(made, meaning)
+            end = self.define(made, f"{label}_left", f"!{mode} && O[1,1] {mode}")
+            inside = f"H[0,{WIDEST}] !{end}"
         elif kind not in ("null", "none", "global"):
             raise Unfit(f"the scope {kind} isn't in the tables")
         if self.condition_of(meaning) == "null":
@@ -306,8 +420,11 @@ class Importer:
         """Returns the table of a scope that opens by itself."""
         if kind in ("null", "none", "global"):
             return GLOBALLY, "", ""
-        if kind == "before":
+        if kind in ("before", "upto"):
             return BEFORE, "", end
+        if kind == "from":
+            mode = f"{made.label}_m"
+            return AFTER, self.define(made, f"{made.label}_q", f"{mode} && !(O[1,{WIDEST}] {mode})"), ""
         if kind == "after":
             left = f"{made.label}_left"
             return AFTER, self.define(made, f"{made.label}_q", f"{left} && !(O[1,{WIDEST}] {left})"), ""
@@ -329,6 +446,21 @@ class Importer:
         return UNTIL, c, self.define(made, f"{made.label}_r", end)
 
 
+def lasts(rate: Optional[Fraction]) -> str:
+    """Returns how long the widest window is, if the rate is known."""
+    return f", {float(WIDEST / rate / 3600):.3g} hours" if rate else ""
+
+
+def kind_of_scope(meaning: dict[str, Any]) -> str:
+    """Returns the type of the scope in lower case."""
+    scope = meaning.get("scope")
+    kind = str((scope or {}).get("type") if isinstance(scope, dict) else scope or "null").lower()
+    for flag in ("exclusive", "required"):
+        if isinstance(scope, dict) and scope.get(flag):
+            raise Unfit(f"the scope {kind} with {flag} isn't in the tables")
+    return kind
+
+
 def written(requirements: list[Requirement], kinds: Kinds) -> str:
     """Returns the specification; what isn't taken is a comment in it."""
     lines = []
@@ -338,7 +470,7 @@ def written(requirements: list[Requirement], kinds: Kinds) -> str:
     if any("first" in it.formula.split() or "(first" in it.formula for it in requirements):
         lines.append("DEFINE first := !(O[1,1] true);")
     for it in requirements:
-        lines.append(f"-- {it.label}: {it.text}")
+        lines.append(f"-- {it.label}{f', {it.id}' if it.id not in ('', it.label) else ''}: {it.text}")
         if it.why:
             lines.append(f"-- {it.label} isn't taken: {it.why}")
             continue

@@ -4,8 +4,9 @@ import re
 from pathlib import Path
 from typing import Dict, List
 
-# In the repository, and under share/r2u2 of what was installed.
-FOLDER = Path(__file__).resolve().parents[4] / "examples"
+from r2u2tools.common.programs import HOME
+
+FOLDER = HOME / "examples"
 GROUPS = {"": "Examples", "patterns": "Patterns", "missions": "Missions"}
 LARGEST = 1 << 18
 

@@ -2,7 +2,6 @@
 
 import json
 import subprocess
-import sys
 import tempfile
 import threading
 from dataclasses import dataclass
@@ -10,11 +9,11 @@ from pathlib import Path
 from typing import Any, Dict, List, Optional
 
 from r2u2tools.common.cli import Trouble
+from r2u2tools.common import programs
 from r2u2tools.common.programs import program
 from r2u2tools.common.specs import MAGIC, read_spec
 from r2u2tools.common.verdict_lines import LONGEST, WORDS
 
-TOOLS = Path(__file__).resolve().parents[3]
 # The seconds of the processor and of the clock, and the memory, of one run.
 SECONDS, CLOCK, KILOBYTES = 10, 30, 2_000_000
 MOST_OUTPUT = 8 << 20
@@ -52,7 +51,7 @@ def bounded(words: List[str], give: bytes = b"") -> Ran:
 
 
 def tool(name: str, *words: str) -> Ran:
-    return bounded([sys.executable, str(TOOLS / name), *words])
+    return bounded([*programs.tool(name), *words])
 
 
 class Files:
@@ -72,7 +71,7 @@ def checked(files: Files) -> Dict[str, Any]:
     """The faults of the specification, as r2u2-check prints them."""
     ran = tool("check", "--json", str(files.spec))
     if not ran.out:
-        raise Trouble(ran.error.removeprefix("check: ") or "c2po gave no answer")
+        raise Trouble(ran.error.removeprefix("r2u2-check: ") or "c2po gave no answer")
     found = json.loads(ran.out)["files"][0]
     return {"accepted": found["status"] == 0, "c2po": found["c2po"], "faults": found["faults"]}
 
@@ -135,7 +134,7 @@ def reason(given: Dict[str, Any]) -> Dict[str, Any]:
         asked = f"{given.get('name')}:{given.get('time')}"
         ran = tool("why", *files.timed, "--", str(files.spec), str(files.trace), asked)
         if ran.status:
-            raise Trouble(ran.error.removeprefix("why: ").replace(folder, ""))
+            raise Trouble(ran.error.removeprefix("r2u2-why: ").replace(folder, ""))
         return {"text": ran.out.decode("utf-8", "replace")}
 
 

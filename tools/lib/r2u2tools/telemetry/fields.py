@@ -71,12 +71,16 @@ class Column:
         self.missing: Optional[str] = None
         self.combine: Optional[Callable[[int, int], int]] = None
         self.changed = self.lost = 0
+        # Whether the source is a dump, where x is no value.
+        self.unknown = False
         # The last value, and that of the row which is being filled.
         self.last: Optional[str] = None
         self.now: Optional[str] = None
 
     def is_missing(self, text: str) -> bool:
-        """Returns whether a field has no value by the rule of the column; without a rule an empty one alone has none."""
+        """Returns whether a field has no value by the rule of the column; without a rule an empty one alone has none, and x in a dump."""
+        if self.unknown and text == "x":
+            return True
         if self.missing is None:
             return not text
         return text.lower() in MISSING and not (self.words and text in self.words)
@@ -139,6 +143,7 @@ class Columns:
         for name in other:
             if name not in getattr(source, "own_names", source.names):
                 raise Trouble(f"--rename: no column {shown(name)} (the file has {', '.join(source.names[:20])})")
+        self.source = source
         self.line, self.width, self.hold, self.sparse = source.line, len(source.names), found.hold, source.sparse
         self.names = [other.get(name, name) for name in source.names]
         self.time = self.place(found.time, "--time") if found.time else -1
@@ -193,6 +198,7 @@ class Columns:
             column("--hex", name).hex = True
         for it in self.chosen:
             it.comma = found.decimal_comma
+            it.unknown = getattr(self.source, "has_unknown", False)
         self.missing_rules(found.missing, column)
         for name, text in pairs("--within", found.within):
             self.combined(column("--within", name), text)
@@ -266,17 +272,21 @@ class Columns:
             what = f"{shown(text)} is no value" if text else "an empty field"
             raise self.refused(number, column.place, f"{what}{hint}")
 
-    def text(self, number: Any, held: bool = False) -> str:
-        """Returns the row, or what holds after it."""
+    def values(self, number: Any, held: bool = False) -> Any:
+        """Returns the values of the row, or those that hold after it."""
         kept = []
         for column in self.chosen:
             value = column.last if held or column.now is None else column.now
             if value is None:
                 if column.missing is None or column.missing in RULES:
-                    raise self.refused(number, column.place, "no value yet")
+                    raise self.refused(number, column.place, f"no value yet: --missing {column.name}=0 gives one, --start begins later")
                 value = str(int(column.missing))
             kept.append(value)
-        return ",".join(kept)
+        return kept
+
+    def text(self, values: Any) -> str:
+        """Returns a row of the trace."""
+        return ",".join(values)
 
     def remarks(self) -> Iterator[str]:
         for column in self.chosen:

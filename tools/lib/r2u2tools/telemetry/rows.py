@@ -60,7 +60,7 @@ class Plain(Rows):
             return
         self.columns.begin()
         self.columns.take(number, fields)
-        text = self.columns.text(number)
+        text = self.columns.text(self.columns.values(number))
         if len(text) > LONGEST:
             raise Refused(f"line {number}: a row of more than {LONGEST} bytes")
         self.output.line(text)
@@ -82,6 +82,7 @@ class Timed(Rows):
         self.waits = found.hold or columns.sparse or bool(found.within)
         self.rate = factor("--rate", found.rate)
         # How far from a row, in rows, a time may be and still belong to it; times that were, and the furthest.
+        self.snaps = found.snap is not None
         self.snap = SNAPPED if found.snap is None else snap_of(found.snap) * self.rate
         self.inexact = self.late = 0
         self.furthest: tuple[Fraction, Any] = (Fraction(0), None)
@@ -92,7 +93,7 @@ class Timed(Rows):
                 raise Trouble(f"--start: {shown(found.start)} isn't a number or a date")
         # The row that is being filled, whether it is still to be written, and what holds after it.
         self.row, self.open = -1, False
-        self.held: Optional[str] = None
+        self.held: Any = None
         self.time: Optional[tuple[int, int]] = None
         self.line: Any = None
         self.replaced = 0
@@ -110,7 +111,7 @@ class Timed(Rows):
         over, under = time[0] * self.columns.time_scale.numerator, time[1] * self.columns.time_scale.denominator
         if self.time is not None:
             self.rises(number, text, over * self.time[1] - self.time[0] * under)
-        self.start = Fraction(over, under) if self.start is None else self.start
+        self.start = self.grid(Fraction(over, under)) if self.start is None else self.start
         begin = self.start * self.rate
         first, self.time, self.line = self.time is None, (over, under), number
         over = over * self.rate.numerator * begin.denominator - begin.numerator * under * self.rate.denominator
@@ -119,6 +120,20 @@ class Timed(Rows):
         if first and row > 0:
             raise self.refused(number, "the first time is after --start")
         return row
+
+    def grid(self, time: Fraction) -> Fraction:
+        """Returns the time of row 0 for the first time.
+
+        With --snap it is a multiple of the step in reach, with --hold the next one; else it is the time itself.
+        """
+        row = round(time * self.rate)
+        if not (self.hold or self.snaps):
+            return time
+        if abs(time * self.rate - row) > self.snap:
+            if not self.hold:
+                return time
+            row = ceil(time * self.rate)
+        return row / self.rate
 
     def rises(self, number: Any, text: str, change: int) -> None:
         """Refuses a time that doesn't rise; equal times are one row where further lines of a row are waited for."""
@@ -182,18 +197,18 @@ class Timed(Rows):
         """Writes the row that is complete, and keeps what holds after it."""
         if not self.open:
             return
-        text = self.columns.text(self.kept_line)
+        text = self.columns.text(self.columns.values(self.kept_line))
         if len(text) > LONGEST - 16:
             raise Refused(f"line {self.kept_line}: a row of more than {LONGEST} bytes")
         self.output.line(f"@{self.row},{text}" if self.stamps else text)
-        self.open, self.held = False, self.columns.text(self.kept_line, True)
+        self.open, self.held = False, self.columns.values(self.kept_line, True)
 
     def finish(self, row: int) -> None:
         """Writes all before a row: the filled one, and those between, where its last values hold."""
         self.write()
         if not self.stamps and self.held is not None:
             for _ in range(row - self.row - 1):
-                self.output.line(self.held)
+                self.output.line(self.columns.text(self.held))
 
     def end(self) -> None:
         """Writes the last row."""

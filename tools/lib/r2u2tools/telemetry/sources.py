@@ -8,7 +8,7 @@ from fractions import Fraction
 from typing import Any, BinaryIO, Iterator, Optional
 
 from r2u2tools.common.cli import Trouble, opened
-from r2u2tools.telemetry.fields import pairs
+from r2u2tools.telemetry.fields import counted, pairs
 from r2u2tools.telemetry.json_lines import JsonLines
 from r2u2tools.telemetry.records import Records, Refused, shown
 from r2u2tools.telemetry.times import Clock
@@ -62,6 +62,42 @@ class Long:
                 yield number, row
 
 
+class Ordered:
+    """The lines of one file in the order of their times with `--sort`, without repeated ones with `--dedupe`."""
+
+    def __init__(self, source: Any, found: Any, clock: Clock) -> None:
+        self.source, self.clock, self.line = source, clock, source.line
+        self.names, self.sparse = source.names, source.sparse
+        self.sorts, self.unites, self.repeated = found.sort, found.dedupe, 0
+        before = {new: old for old, new in pairs("--rename", found.rename)}
+        self.time = before.get(found.time, found.time)
+
+    def lines(self) -> Iterator[tuple[Any, list[Optional[str]]]]:
+        if not self.sorts or self.time not in self.names:
+            yield from self.source
+            return
+        at = self.names.index(self.time)
+        kept = []
+        for number, fields in self.source:
+            if len(fields) != len(self.names):
+                raise Refused(f"line {number}: {len(fields)} fields, where {len(self.names)} columns have names")
+            time = self.clock.read((fields[at] or "").strip())
+            if time is None:
+                raise Refused(f"line {number}: {shown(fields[at] or '')} is no time in seconds")
+            kept.append((Fraction(*time), number, fields))
+        for _, number, fields in sorted(kept, key=lambda it: it[0]):
+            yield number, fields
+
+    def __iter__(self) -> Iterator[tuple[Any, list[Optional[str]]]]:
+        before: Optional[list[Optional[str]]] = None
+        for number, fields in self.lines():
+            if self.unites and fields == before:
+                self.repeated += 1
+                continue
+            before = fields
+            yield number, fields
+
+
 class Merged:
     """Several files, line by line in the order of their times; of equal times the earlier file comes first."""
 
@@ -71,6 +107,7 @@ class Merged:
         self.sources, self.clock, self.line = sources, clock, 1
         renamed = dict(pairs("--rename", found.rename))
         self.names, self.shifts, self.times = [found.time], [], []
+        self.has_unknown = any(getattr(source, "has_unknown", False) for _, source in sources)
         self.own_names = {name for _, source in sources for name in source.names}
         for path, source in sources:
             names = [renamed.get(name, name) for name in source.names]
@@ -109,6 +146,7 @@ class Sources:
         self.found, self.clock, self.wanted = found, clock, wanted_names(found, signals)
         self.stack = ExitStack()
         self.files: list[BinaryIO] = []
+        self.ordered: list[Ordered] = []
 
     def __enter__(self) -> Any:
         paths = self.found.telemetry
@@ -125,6 +163,9 @@ class Sources:
         self.stack.enter_context(file)
         try:
             made = self.made(file, format_of(path, self.found.format))
+            if (self.found.sort or self.found.dedupe) and not getattr(made, "has_unknown", False):
+                made = Ordered(made, self.found, self.clock)
+                self.ordered.append(made)
             return Long(made, self.found, self.wanted) if self.found.long else made
         except Refused as fault:
             raise Refused(f"{path}: {fault}") if len(self.found.telemetry) > 1 else fault from None
@@ -138,6 +179,11 @@ class Sources:
         if form == "json":
             return JsonLines(file, [] if found.long or len(found.telemetry) > 1 else self.wanted, found.skip, found.comment)
         return Records(file, found.delimiter, found.names, found.skip, found.comment)
+
+    def remarks(self) -> Iterator[str]:
+        repeated = sum(it.repeated for it in self.ordered)
+        if repeated:
+            yield f"{counted(repeated, 'line')} left out that repeat{'s' * (repeated == 1)} the one before"
 
     def __exit__(self, *_: Any) -> None:
         self.stack.close()

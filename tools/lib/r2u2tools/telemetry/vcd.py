@@ -26,6 +26,8 @@ class Dump:
     """The signals of a dump by their names, those of equal names with their scopes; the first column is the time."""
 
     sparse = True
+    # An unknown value of a signal is the text x.
+    has_unknown = True
 
     def __init__(self, file: BinaryIO, time: str) -> None:
         self.words = self.tokens(file)
@@ -79,7 +81,7 @@ class Dump:
             self.variables.setdefault(body[2], Variable(name, ".".join([*scope, name]), body[0], int(body[1])))
 
     def change(self, word: str) -> tuple[str, str]:
-        """Returns the code of a signal and its new value as a text; a value that is unknown is empty."""
+        """Returns the code of a signal and its new value as a text; a value with an unknown bit, x or z, is x."""
         if word[0] in "bBrR":
             value, code = word[1:], self.next()
         else:
@@ -89,7 +91,7 @@ class Dump:
         if word[0] in "rR":
             return code, value
         if set(value) & set("xXzZ-uUwW"):
-            return code, ""
+            return code, "x"
         if not value or set(value) - set("01"):
             raise Refused(f"line {self.number}: {shown(word)} isn't a value of a dump")
         it, number = self.variables[code], int(value, 2)

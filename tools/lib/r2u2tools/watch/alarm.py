@@ -10,9 +10,9 @@ from pathlib import Path
 from typing import List, Optional
 
 from r2u2tools.common.cli import note
+from r2u2tools.common.programs import tool
 from r2u2tools.watch.stream import Rows
 
-WHY = Path(__file__).resolve().parents[3] / "why"
 MOST_WAITING = 1000
 SECONDS = 60
 
@@ -38,7 +38,7 @@ class Reasons:
     def of(self, event: Event) -> str:
         """What decides the verdict, in one line as r2u2-why prints it, or why that can't be said."""
         begin = self.rows.write(self.trace, self.timed)
-        words = [sys.executable, str(WHY), *["--timed"] * self.timed, "--begin", str(begin), "--"]
+        words = [*tool("why"), *["--timed"] * self.timed, "--begin", str(begin), "--"]
         words += [self.spec, str(self.trace), f"{event.name}:{event.time}"]
         try:
             ran = subprocess.run(

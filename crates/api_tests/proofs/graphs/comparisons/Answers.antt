@@ -1,8 +1,8 @@
 use Rattle.std.proofs.Common.{All, map, subst, sym}
 use Rattle.std.proofs.lemmas.List.Elements.{All-map}
 use Rattle.mltl_base.specs.Subformulas.{IsTensed}
-use Rattle.c2po_nodes.specs.Nodes.{trees}
-use Rattle.c2po_nodes.specs.Outputs.{asked_by}
+use Rattle.c2po_ast.specs.Nodes.{trees}
+use Rattle.c2po_ast.specs.Outputs.{asked_by}
 use Rattle.api_tests.proofs.Comparing.{comparing-signal, comparing-next}
 use Rattle.api_tests.proofs.graphs.comparisons.Goals as goal
 

@@ -1,6 +1,6 @@
 use Rattle.std.proofs.Common.{[], subst, sym}
 use Rattle.tool_io.proofs.LogLaws.{OnLog-none}
-use Rattle.obs_files.specs.Faults.{opened}
+use Rattle.obs_binary.specs.Faults.{opened}
 use Rattle.c2po_cli.specs.Asking.{make_of}
 use Rattle.c2po_cli.specs.Made.{made_bytes, opened_as}
 use Rattle.c2po_cli.specs.Phases.{FileMadeLog}

@@ -2,13 +2,13 @@
 use Rattle.std.proofs.Common.{◌∙◌, ap₂, refl}
 use Rattle.std.proofs.lemmas.Result.{err_from_is_err_and}
 use Rattle.mltl_base.specs.declared.program.Program.{Program}
-use Rattle.c2po_nodes.specs.Outputs.{asked_in}
+use Rattle.c2po_ast.specs.Outputs.{asked_in}
 use Rattle.c2po_compile.specs.Images.{stored_signals}
 use Rattle.c2po_compile.proofs.Building.{IsDraft, IsBuilt, sizable, built, graph_reason, reason}
 use Rattle.c2po_compile.proofs.assembly.build.Goals as goal
 
-pub sizes_of-requires : goal.sizes_of-requires
-sizes_of-requires c = sizable c.args.spec.now c.args.signals.now c.args.columns.now c.in_ok-graph.graph c.requires c.in_ok-graph.ensures.graph c.in_ok-graph.ensures.few
+pub timing_of-requires : goal.timing_of-requires
+timing_of-requires c = sizable c.args.spec.now c.args.signals.now c.args.columns.now c.in_ok-graph.graph c.requires c.in_ok-graph.ensures.graph c.in_ok-graph.ensures.few
 
 pub returns-in_err-graph-clause-refused : goal.returns-in_err-graph-clause-refused
 returns-in_err-graph-clause-refused c =

@@ -1,6 +1,6 @@
 use Rattle.std.proofs.Common.{◌≡◌, ◌≤◌, ◌*◌, take, length}
 use Rattle.std.specs.List.{flat_map}
-use Rattle.obs_files.specs.Layout.{signal_name}
+use Rattle.obs_binary.specs.Layout.{signal_name}
 use Rattle.c2po_compile.proofs.names.signal_bytes.Given as goal
 
 -- the bytes of the names so far, at most 64 of each

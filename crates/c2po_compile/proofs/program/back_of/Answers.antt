@@ -2,7 +2,7 @@ use Rattle.std.proofs.Common.{◌≡◌, ◌∙◌, None, ap, subst}
 use Rattle.std.proofs.lemmas.Result.{err_from_is_err_and}
 use Rattle.c2po_ast.specs.ItemShape.{spec_shape}
 use Rattle.c2po_types.specs.Signals.{signals_of}
-use Rattle.c2po_nodes.specs.Outputs.{asked}
+use Rattle.c2po_ast.specs.Outputs.{asked}
 use Rattle.c2po_compile.specs.Refusals.{IsFirstRefusal, build_refusal}
 use Rattle.c2po_compile.specs.Limits.{limit_refusal}
 use Rattle.c2po_compile.specs.Image.{image, over_columns}

@@ -3,9 +3,9 @@ use Rattle.std.specs.List.{flat_map, list_all}
 use Rattle.std.proofs.lemmas.List.Elements.{All-map}
 use Rattle.c2po_ast.specs.ItemShape.{spec_shape}
 use Rattle.c2po_ast.specs.Names.{IsPlainName}
-use Rattle.c2po_nodes.specs.Outputs.{asked}
+use Rattle.c2po_ast.specs.Outputs.{asked}
 use Rattle.mltl_base.specs.Letters.{is_in_word}
-use Rattle.obs_files.specs.Layout.{out_names, signal_name, signal_names}
+use Rattle.obs_binary.specs.Layout.{out_names, signal_name, signal_names}
 use Rattle.c2po_compile.specs.Images.{stored_signals}
 use Rattle.c2po_compile.proofs.Tenses.{image_names}
 use Rattle.c2po_compile.specs.Image.{image}

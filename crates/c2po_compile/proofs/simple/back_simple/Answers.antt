@@ -3,10 +3,10 @@ use Rattle.mltl_base.specs.Subformulas.{Asked}
 use Rattle.mltl_simplify.specs.Outputs.{simple_outputs}
 use Rattle.c2po_ast.specs.ItemShape.{spec_shape}
 use Rattle.c2po_types.specs.Signals.{signals_of}
-use Rattle.c2po_nodes.specs.Outputs.{asked}
+use Rattle.c2po_ast.specs.Outputs.{asked}
 use Rattle.c2po_types.specs.Outputs.{outputs_of}
 use Rattle.c2po_compile.specs.BuildLimits.{IsReason}
-use Rattle.obs_files.specs.Names.{NamesFit}
+use Rattle.obs_binary.specs.Names.{NamesFit}
 use Rattle.c2po_compile.specs.Limits.{limit_refusal}
 use Rattle.c2po_compile.specs.Image.{image, over_columns}
 use Rattle.c2po_compile.specs.Simplified.{slots_in}

@@ -3,7 +3,7 @@ use Rattle.std.proofs.lemmas.Result.{err_from_is_err_and}
 use Rattle.c2po_ast.specs.ItemShape.{item_shape}
 use Rattle.c2po_types.specs.Checking.{Fails}
 use Rattle.c2po_types.proofs.Turns.{turn-more, turn-fails, turn-end}
-use Rattle.c2po_unfold.specs.Environment.{no_names}
+use Rattle.c2po_types.specs.Environment.{no_names}
 use Rattle.c2po_types.specs.Stepwise.{State, item_step}
 use Rattle.c2po_types.specs.Reaching.{state_of}
 use Rattle.c2po_types.proofs.Outcome.{checked-from}

@@ -2,8 +2,8 @@ use Rattle.std.proofs.Common.{◌≡◌, ◌≤◌, drop, map}
 use Rattle.mltl_base.specs.declared.limits.TheConstants.{MAX_WEIGHT}
 use Rattle.c2po_ast.specs.ItemShape.{item_shape}
 use Rattle.c2po_types.specs.Checking.{in_turn}
-use Rattle.c2po_unfold.specs.Environment.{Env}
-use Rattle.c2po_unfold.specs.Holding.{StandsFor}
+use Rattle.c2po_types.specs.Environment.{Env}
+use Rattle.c2po_types.specs.Holding.{StandsFor}
 use Rattle.c2po_types.specs.Stepwise.{item_step, checked}
 use Rattle.c2po_types.specs.Reaching.{state_of}
 use Rattle.c2po_types.proofs.spec_check.run.Given as goal

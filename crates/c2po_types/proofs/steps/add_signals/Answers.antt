@@ -1,6 +1,6 @@
 use Rattle.std.proofs.Common.{◌∙◌, sym, subst}
-use Rattle.c2po_unfold.specs.Environment.{declare, value, signal_value}
-use Rattle.c2po_unfold.specs.Holding.{StandsFor}
+use Rattle.c2po_types.specs.Environment.{declare, value, signal_value}
+use Rattle.c2po_types.specs.Holding.{StandsFor}
 use Rattle.c2po_types.proofs.Outcome.{signals-more, signals-end}
 use Rattle.c2po_types.proofs.steps.add_signals.Goals as goal
 

@@ -1,6 +1,6 @@
 use Rattle.std.proofs.Common.{◌≡◌, drop}
-use Rattle.c2po_unfold.specs.Environment.{Env}
-use Rattle.c2po_unfold.specs.Holding.{StandsFor}
+use Rattle.c2po_types.specs.Environment.{Env}
+use Rattle.c2po_types.specs.Holding.{StandsFor}
 use Rattle.c2po_types.specs.Outputs.{with_signals}
 use Rattle.c2po_types.proofs.steps.add_signals.Given as goal
 

@@ -2,7 +2,7 @@
 use Rattle.std.proofs.Common.{◌≡◌, ◌<◌, Err, All, List, ℕ, length, subst, sym, ap, ◌∙◌}
 use Rattle.std.specs.Prelude.{IfOk, OnOk}
 use Rattle.mltl_base.specs.Subformulas.{IsGraphOf}
-use Rattle.c2po_nodes.specs.declared.nodes.Plain.{Plain}
+use Rattle.c2po_ast.specs.declared.nodes.Plain.{Plain}
 use Rattle.core_graph.specs.declared.graph.GraphFault.TheVariants.{TooManyNodes}
 use Rattle.core_graph.specs.Limits.{AreFew, AreMany}
 use Rattle.core_graph.specs.Listings.{NamesNodes}

@@ -1,7 +1,7 @@
 -- The slices are the lists of the specification.
 use Rattle.std.proofs.Common.{List, ℕ, subst}
-use Rattle.c2po_nodes.specs.declared.nodes.Plain.{Plain}
-use Rattle.c2po_nodes.specs.declared.nodes.PlainOut.{PlainOut}
+use Rattle.c2po_ast.specs.declared.nodes.Plain.{Plain}
+use Rattle.c2po_ast.specs.declared.nodes.PlainOut.{PlainOut}
 use Rattle.core_graph.specs.Limits.{AreMany}
 use Rattle.core_graph.specs.Listings.{asked_of_nodes}
 use Rattle.core_graph.proofs.graph.to_core.Goals as goal

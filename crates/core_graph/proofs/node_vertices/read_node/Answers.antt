@@ -4,8 +4,8 @@ use Rattle.std.specs.Prelude.{ℤ, FitsSigned, IfOk}
 use Rattle.std.specs.Int.{w64}
 use Rattle.std.proofs.lemmas.Int.{to_z-of_z}
 use Rattle.std.proofs.lemmas.Result.{on_ok_weaker}
-use Rattle.c2po_nodes.specs.declared.nodes.Plain.{Plain}
-use Rattle.c2po_nodes.specs.Nodes as plain
+use Rattle.c2po_ast.specs.declared.nodes.Plain.{Plain}
+use Rattle.c2po_ast.specs.Nodes as plain
 use Rattle.core_graph.specs.Trees.{leaf, number}
 use Rattle.core_graph.specs.Vertices.{Has}
 use Rattle.core_graph.specs.Reading.{Represents}

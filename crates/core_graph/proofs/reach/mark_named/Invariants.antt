@@ -1,5 +1,5 @@
 use Rattle.std.proofs.Common.{◌≡◌, ◌⊎◌, ℕ, ◌<◌, length, slice_index_or}
-use Rattle.c2po_nodes.specs.declared.nodes.PlainOut.{PlainOut}
+use Rattle.c2po_ast.specs.declared.nodes.PlainOut.{PlainOut}
 use Rattle.core_graph.specs.Reached.{IsMarked, IsRoot, NamesMarked}
 use Rattle.core_graph.proofs.reach.mark_named.Given as goal
 

@@ -1,5 +1,5 @@
 use Rattle.std.proofs.Common.{◌≡◌, ◌⊎◌, ℕ, ◌≤◌, length, Some, slice_get}
-use Rattle.c2po_nodes.specs.declared.nodes.Plain.{Plain}
+use Rattle.c2po_ast.specs.declared.nodes.Plain.{Plain}
 use Rattle.core_graph.specs.Reached.{IsBelow, IsMarked, IsOperand, node_operands}
 use Rattle.core_graph.proofs.reach.mark_operands.Given as goal
 

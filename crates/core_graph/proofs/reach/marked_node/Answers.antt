@@ -1,7 +1,7 @@
 -- The node, or true.
 use Rattle.std.proofs.Common.{◌<◌, Bool, true, false, cond, length, Some, get_or, ap, ◌∙◌, arith}
 use Rattle.std.proofs.lemmas.Option.{slice_get-get_or}
-use Rattle.c2po_nodes.specs.declared.nodes.Plain.TheVariants.{Truth}
+use Rattle.c2po_ast.specs.declared.nodes.Plain.TheVariants.{Truth}
 use Rattle.core_graph.proofs.Marking.{marked_at}
 use Rattle.core_graph.proofs.reach.marked_node.Goals as goal
 

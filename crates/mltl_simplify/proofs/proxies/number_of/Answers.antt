@@ -3,12 +3,12 @@ use Rattle.std.specs.Prelude.{FitsSigned}
 use Rattle.std.specs.Int.{w64}
 use Rattle.std.proofs.lemmas.Int.{to_z-of_z}
 use Rattle.mltl_base.specs.Atoms.{constant, negative}
-use Rattle.c2po_nodes.specs.declared.nodes.Plain.TheVariants.{Number, Minus, Arith}
-use Rattle.c2po_nodes.specs.Nodes.{arithmetic, node_term, trees}
+use Rattle.c2po_ast.specs.declared.nodes.Plain.TheVariants.{Number, Minus, Arith}
+use Rattle.c2po_ast.specs.Nodes.{arithmetic, node_term, trees}
 use Rattle.mltl_simplify.specs.Nodes.{IsNumbered, known_number}
 use Rattle.mltl_simplify.specs.Numbers.{IsComputed, IsNegated}
 use Rattle.mltl_simplify.proofs.Reading.{formed_here, head, number_below}
-use Rattle.c2po_nodes.proofs.Places.{node_there}
+use Rattle.c2po_ast.proofs.Places.{node_there}
 use Rattle.mltl_simplify.proofs.Numbering.{computed_known, constant_known, negated_known}
 use Rattle.mltl_simplify.proofs.Placing.{known_operand, numbered_as, other_numbered}
 use Rattle.mltl_simplify.proofs.proxies.number_of.Goals as goal

@@ -1,9 +1,9 @@
 use Rattle.std.proofs.Common.{take, subst, sym, refl, ◌∙◌, ◌<◌, arith}
-use Rattle.c2po_nodes.specs.declared.nodes.Plain.TheVariants.{Minus, Arith, Compare, Not, Logic, Window, Between}
-use Rattle.c2po_nodes.specs.Nodes.{Has, node_formula, number, node_term, trees}
+use Rattle.c2po_ast.specs.declared.nodes.Plain.TheVariants.{Minus, Arith, Compare, Not, Logic, Window, Between}
+use Rattle.c2po_ast.specs.Nodes.{Has, node_formula, number, node_term, trees}
 use Rattle.mltl_simplify.specs.Nodes.{IsFormulaAt, IsSimplified}
 use Rattle.mltl_simplify.proofs.Reading.{formed_here, formula_below, head, number_below}
-use Rattle.c2po_nodes.proofs.Places.{node_there}
+use Rattle.c2po_ast.proofs.Places.{node_there}
 use Rattle.mltl_simplify.proofs.Numbering.{IsKnown}
 use Rattle.mltl_simplify.proofs.Placing.{formula_there, number_there, known_operand, is_there, logic_placed, window_placed, between_placed, not_placed, place_arith, place_compare, place_leaf, place_minus, place_truth}
 use Rattle.mltl_simplify.proofs.proxies.place_of.Goals as goal

@@ -1,6 +1,6 @@
 use Rattle.std.proofs.Common.{length, take, not, ap, refl, arith}
-use Rattle.c2po_nodes.specs.declared.nodes.Plain.TheVariants.{Truth, Not}
-use Rattle.c2po_nodes.specs.Nodes.{formula, node_formula, trees}
+use Rattle.c2po_ast.specs.declared.nodes.Plain.TheVariants.{Truth, Not}
+use Rattle.c2po_ast.specs.Nodes.{formula, node_formula, trees}
 use Rattle.mltl_simplify.specs.Simplify.{simple_not}
 use Rattle.mltl_simplify.proofs.Reading.{formed_found, formula_operand, found, has_place}
 use Rattle.mltl_simplify.proofs.Putting.{not_put, stays, truth_put}

@@ -1,7 +1,7 @@
 use Rattle.std.proofs.Common.{length, take, ap, refl, sym, subst, ◌≡◌, ◌∙◌, arith}
 use Rattle.mltl_base.specs.declared.operators.WindowOp.{WindowOp}
-use Rattle.c2po_nodes.specs.declared.nodes.Plain.TheVariants.{Window}
-use Rattle.c2po_nodes.specs.Nodes.{formula, node_formula, tree_of, trees}
+use Rattle.c2po_ast.specs.declared.nodes.Plain.TheVariants.{Window}
+use Rattle.c2po_ast.specs.Nodes.{formula, node_formula, tree_of, trees}
 use Rattle.mltl_simplify.specs.Nodes.{simple_window}
 use Rattle.mltl_simplify.proofs.Reading.{formed_found, formula_operand, found, has_place}
 use Rattle.mltl_simplify.proofs.Putting.{window_put}

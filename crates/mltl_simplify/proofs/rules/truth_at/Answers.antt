@@ -1,6 +1,6 @@
 use Rattle.std.proofs.Common.{length, take, ap, refl, arith}
-use Rattle.c2po_nodes.specs.declared.nodes.Plain.TheVariants.{Truth}
-use Rattle.c2po_nodes.specs.Nodes.{formula, trees}
+use Rattle.c2po_ast.specs.declared.nodes.Plain.TheVariants.{Truth}
+use Rattle.c2po_ast.specs.Nodes.{formula, trees}
 use Rattle.mltl_simplify.proofs.Reading.{found, has_place}
 use Rattle.mltl_simplify.proofs.Heads.{truth_told, none_told}
 use Rattle.mltl_simplify.proofs.rules.truth_at.Goals as goal

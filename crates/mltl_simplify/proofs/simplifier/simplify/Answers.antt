@@ -1,11 +1,11 @@
 use Rattle.std.proofs.Common.{List, length, map, All, subst, sym, ap, ◌∙◌}
 use Rattle.mltl_base.specs.Subformulas.{Asked}
-use Rattle.c2po_nodes.specs.declared.nodes.Plain.{Plain}
-use Rattle.c2po_nodes.specs.declared.nodes.PlainOut.{PlainOut}
-use Rattle.c2po_nodes.specs.Outputs.{asked}
+use Rattle.c2po_ast.specs.declared.nodes.Plain.{Plain}
+use Rattle.c2po_ast.specs.declared.nodes.PlainOut.{PlainOut}
+use Rattle.c2po_ast.specs.Outputs.{asked}
 use Rattle.mltl_simplify.specs.declared.proxies.Proxy.{Proxy}
 use Rattle.mltl_simplify.specs.Nodes.{AreSimplified, ReadsNodes, out_over}
-use Rattle.c2po_nodes.specs.Faults.{HasRanges}
+use Rattle.c2po_ast.specs.Faults.{HasRanges}
 use Rattle.mltl_simplify.proofs.Ending.{outs_below, simple_asks, simple_ranged, simple_sound}
 use Rattle.mltl_simplify.proofs.InPlace.{placed_sat, placed_settled, placed_wpd}
 use Rattle.mltl_simplify.proofs.simplifier.simplify.Goals as goal

@@ -16,7 +16,6 @@ pub loop-ending-init : goal.loop-ending-init
 loop-ending-init g c = record {
   mission = refl;
   style = refl;
-  none = c.new-held.ensures.none;
   within = omega (arith, c.requires.start.no_lines);
   program = refl;
   no_fault = λ place. refl;
@@ -25,18 +24,15 @@ loop-ending-init g c = record {
       (record { program_kept = refl; stands = c.requires.ready.no_rows; drained = c.requires.ready.drained }) c.requires.start.no_lines c.requires.start.no_rows);
 }
 
-pub turn-requires-clause-ready : goal.turn-requires-clause-ready
-turn-requires-clause-ready g c =
+pub next_line-requires-clause-under_way : goal.next_line-requires-clause-under_way
+next_line-requires-clause-under_way g c =
     let was = c.loop-ending.invariant in
     let has = was.log.holds in
     let course = c.loop-ending.course in
     record {
-      under_way = record {
-        drained = has.kept.drained;
-        counted = subst (IsCounted course.reader course.lines) has.kept.stands.taken.stand.count (is_counted was.feed course.reader course.lines has.rows has.keeps);
-        mission = omega (arith, was.mission, c.requires.ready.within);
-      };
-      none = was.none;
+      drained = has.kept.drained;
+      counted = subst (IsCounted course.reader course.lines) has.kept.stands.taken.stand.count (is_counted was.feed course.reader course.lines has.rows has.keeps);
+      mission = omega (arith, was.mission, c.requires.ready.within);
     }
 
 pub loop-ending-preserved : goal.loop-ending-preserved
@@ -45,14 +41,13 @@ loop-ending-preserved g c =
     let has = was.log.holds in
     let course = c.loop-ending.course in
     let turn = c.in_default.ensures.log has.rows was.feed has.kept.stands has.keeps in
-    let goes = turn_goes _ _ _ _ _ _ _ course was.feed was.log.events has tt c.turn.new.self turn.events was.within (omega (arith, was.mission, c.requires.ready.within))
-    (subst (λ program. Turns (Continue tt) program course c.turn.new.self was.feed has.rows c.loop-ending.cut c.turn.new.cut c.turn.new.monitor turn.events) has.kept.program_kept turn.holds) in
+    let goes = turn_goes _ _ _ _ _ _ _ course was.feed was.log.events has tt c.next_line.new.self turn.events was.within (omega (arith, was.mission, c.requires.ready.within))
+    (subst (λ program. Turns (Continue tt) program course c.next_line.new.self was.feed has.rows c.loop-ending.cut c.next_line.new.cut c.next_line.new.monitor turn.events) has.kept.program_kept turn.holds) in
     record {
       mission = goes.same_mission ∙ was.mission;
       style = goes.same_style ∙ was.style;
-      none = c.in_default.ensures.prompt;
       within = goes.within;
-      program = c.turn.ensures.program ∙ was.program;
+      program = c.next_line.ensures.program ∙ was.program;
       no_fault = NoFault-then _ _ _ was.no_fault c.in_default.ensures.cause;
       feed = goes.next;
       log = record {
@@ -68,8 +63,8 @@ loop-ending-smaller g c =
     let has = was.log.holds in
     let course = c.loop-ending.course in
     let turn = c.in_default.ensures.log has.rows was.feed has.kept.stands has.keeps in
-    (turn_goes _ _ _ _ _ _ _ course was.feed was.log.events has tt c.turn.new.self turn.events was.within (omega (arith, was.mission, c.requires.ready.within))
-    (subst (λ program. Turns (Continue tt) program course c.turn.new.self was.feed has.rows c.loop-ending.cut c.turn.new.cut c.turn.new.monitor turn.events) has.kept.program_kept turn.holds)).fewer
+    (turn_goes _ _ _ _ _ _ _ course was.feed was.log.events has tt c.next_line.new.self turn.events was.within (omega (arith, was.mission, c.requires.ready.within))
+    (subst (λ program. Turns (Continue tt) program course c.next_line.new.self was.feed has.rows c.loop-ending.cut c.next_line.new.cut c.next_line.new.monitor turn.events) has.kept.program_kept turn.holds)).fewer
 
 pub returns-in-Break-clause-log : goal.returns-in-Break-clause-log
 returns-in-Break-clause-log g c =
@@ -84,8 +79,8 @@ returns-in-Break-clause-log g c =
     record {
       events = events;
       appended = Appends-then _ _ _ was.log.events turn.events was.log.appended turn.appended;
-      holds = subst (λ answer. IsWatch program c.args.course.style rows_in c.args.cut.now c.turn.new.cut c.turn.new.monitor answer events) (sym c.watched.ensures)
-          (subst (λ (style : Style). IsWatch program style rows_in c.args.cut.now c.turn.new.cut c.turn.new.monitor ended events) was.style
-          (turn_ends _ _ _ _ _ _ _ course was.feed was.log.events has ended c.turn.new.self turn.events
-          (subst (λ p. Turns (Break ended) p course c.turn.new.self was.feed has.rows c.loop-ending.cut c.turn.new.cut c.turn.new.monitor turn.events) has.kept.program_kept turn.holds)));
+      holds = subst (λ answer. IsWatch program c.args.course.style rows_in c.args.cut.now c.next_line.new.cut c.next_line.new.monitor answer events) (sym c.watched.ensures)
+          (subst (λ (style : Style). IsWatch program style rows_in c.args.cut.now c.next_line.new.cut c.next_line.new.monitor ended events) was.style
+          (turn_ends _ _ _ _ _ _ _ course was.feed was.log.events has ended c.next_line.new.self turn.events
+          (subst (λ p. Turns (Break ended) p course c.next_line.new.self was.feed has.rows c.loop-ending.cut c.next_line.new.cut c.next_line.new.monitor turn.events) has.kept.program_kept turn.holds)));
     }

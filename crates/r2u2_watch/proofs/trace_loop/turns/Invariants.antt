@@ -1,4 +1,4 @@
-use Rattle.std.proofs.Common.{◌≡◌, ◌≤◌, ◌+◌, ◌-◌, []}
+use Rattle.std.proofs.Common.{◌≡◌, ◌≤◌, ◌+◌, ◌-◌}
 use Rattle.tool_io.specs.Log.{OnLog}
 use Rattle.tool_io.specs.Host.{NoFault}
 use Rattle.tool_io.specs.Cutting.{next_number}
@@ -14,7 +14,6 @@ abbrev pub invariant-loop-ending : goal.invariant-loop-ending
 invariant-loop-ending g l = record {
   mission : l.course.mission ≡ l.initial.course.mission;
   style : l.course.style ≡ l.initial.course.style;
-  none : l.held ≡ [];
   within : l.course.lines ≤ l.course.mission;
   program : program_of l.monitor ≡ program_of l.initial.monitor;
   no_fault : NoFault (g.H.Host.faults l.initial.host) (g.H.Host.faults l.host);

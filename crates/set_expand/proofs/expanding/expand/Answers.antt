@@ -4,15 +4,15 @@ use Rattle.std.proofs.lemmas.List.{length-map}
 use Rattle.mltl_base.specs.Kinds.{ReadsSignals, kinds_of}
 use Rattle.mltl_base.specs.Meaning.{sat}
 use Rattle.c2po_ast.specs.ItemShape.{ItemShape, item_shape, spec_shape}
-use Rattle.c2po_nodes.specs.declared.nodes.Plain.{Plain}
-use Rattle.c2po_nodes.specs.Faults.{HasRanges}
-use Rattle.c2po_nodes.specs.Nodes.{trees}
-use Rattle.c2po_nodes.specs.Outputs.{IsSound, asked, asked_by}
+use Rattle.c2po_ast.specs.declared.nodes.Plain.{Plain}
+use Rattle.c2po_ast.specs.Faults.{HasRanges}
+use Rattle.c2po_ast.specs.Nodes.{trees}
+use Rattle.c2po_ast.specs.Outputs.{IsSound, asked, asked_by}
 use Rattle.c2po_types.specs.FirstFault.{first_fault}
 use Rattle.c2po_types.specs.Signals.{signals_of}
 use Rattle.c2po_types.proofs.Faultless.{faultless-ranged}
 use Rattle.c2po_types.proofs.Labelling.{plain_outputs}
-use Rattle.c2po_unfold.proofs.Meaning.{counting_means}
+use Rattle.c2po_types.proofs.ValueMeaning.{counting_means}
 use Rattle.set_expand.specs.declared.items.Unfolded.{Unfolded}
 use Rattle.set_expand.specs.Outputs.{HasPlainName, outputs_of}
 use Rattle.set_expand.specs.Unfolded.{Leaves}

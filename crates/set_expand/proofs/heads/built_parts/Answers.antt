@@ -1,8 +1,8 @@
 use Rattle.std.proofs.Common.{ap, sym, ◌∙◌}
 use Rattle.c2po_ast.specs.Shape.{shapes}
 use Rattle.c2po_ast.proofs.Rows.{shape_of-Build}
-use Rattle.c2po_unfold.specs.Values.{built}
-use Rattle.c2po_unfold.specs.Environment.{value_of, values_of}
+use Rattle.c2po_types.specs.Values.{built}
+use Rattle.c2po_types.specs.Environment.{value_of, values_of}
 use Rattle.set_expand.proofs.heads.built_parts.Goals as goal
 
 pub returns-in-Build-clause-built : goal.returns-in-Build-clause-built

@@ -1,7 +1,7 @@
 use Rattle.std.proofs.lemmas.Result.{err_from_is_err_and}
 use Rattle.c2po_ast.specs.Shape.{shape}
 use Rattle.c2po_types.specs.Items.{with_label, formula_kind}
-use Rattle.c2po_unfold.specs.Environment.{value_of}
+use Rattle.c2po_types.specs.Environment.{value_of}
 use Rattle.c2po_types.specs.Stepwise.{one_out}
 use Rattle.c2po_types.specs.Reaching.{state_of}
 use Rattle.c2po_types.proofs.Parts.{fails-second}

@@ -1,6 +1,6 @@
 use Rattle.std.proofs.Common.{◌≡◌, ℕ, List, length, ap, ◌∙◌}
-use Rattle.fixed_list.specs.Lending.{with_members}
-use Rattle.fixed_list.proofs.Members.{with_members_is}
+use Rattle.mltl_base.specs.Lending.{with_members}
+use Rattle.mltl_base.proofs.FixedMembers.{with_members_is}
 use Rattle.contract_status.proofs.outs.Outs.next_at.Goals as goal
 
 pub tell_first-requires-clause-stands : goal.tell_first-requires-clause-stands

@@ -4,7 +4,7 @@ use Rattle.std.specs.Prelude.{IfOk}
 use Rattle.std.proofs.lemmas.Result.{on_ok_weaker}
 use Rattle.mltl_base.specs.declared.operators.BetweenOp.{BetweenOp}
 use Rattle.mltl_base.specs.Formula.{core, cuntil, neg}
-use Rattle.c2po_nodes.specs.Nodes.{ranged}
+use Rattle.c2po_ast.specs.Nodes.{ranged}
 use Rattle.core_graph.specs.Vertices.{Has}
 use Rattle.core_graph.specs.Images.{of_core}
 use Rattle.core_graph.specs.Reading.{IsCoreAt}

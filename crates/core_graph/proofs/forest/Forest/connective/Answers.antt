@@ -3,7 +3,7 @@ use Rattle.std.proofs.Common.{subst, sym}
 use Rattle.std.specs.Prelude.{IfOk}
 use Rattle.mltl_base.specs.declared.operators.LogicOp.{LogicOp}
 use Rattle.mltl_base.specs.Formula.{core}
-use Rattle.c2po_nodes.specs.Nodes.{connected}
+use Rattle.c2po_ast.specs.Nodes.{connected}
 use Rattle.core_graph.specs.Vertices.{Has}
 use Rattle.core_graph.specs.Images.{of_core}
 use Rattle.core_graph.proofs.forest.Forest.connective.Goals as goal

@@ -3,7 +3,7 @@ use Rattle.std.proofs.Common.{Bool, subst, sym}
 use Rattle.std.specs.Prelude.{IfOk}
 use Rattle.std.proofs.lemmas.Result.{on_ok_weaker, IfOk-weaker}
 use Rattle.mltl_base.specs.Formula.{core}
-use Rattle.c2po_nodes.specs.Nodes.{constant_formula}
+use Rattle.c2po_ast.specs.Nodes.{constant_formula}
 use Rattle.core_graph.specs.Trees.{not_sign, sign, one}
 use Rattle.core_graph.specs.Vertices.{Has}
 use Rattle.core_graph.specs.Images.{of_core}

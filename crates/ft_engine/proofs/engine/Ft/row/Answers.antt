@@ -1,8 +1,8 @@
 use Rattle.std.proofs.Common.{◌≡◌, ℕ, ◌+◌, ◌≤◌, ℤ, List, length, slice_index, arith, ap, subst, sym, ◌∙◌}
 use Rattle.std.specs.List.{slice_get}
 use Rattle.std.proofs.lemmas.List.{length-map}
-use Rattle.fixed_list.specs.Lending.{with_members}
-use Rattle.fixed_list.proofs.Members.{with_members_is}
+use Rattle.mltl_base.specs.Lending.{with_members}
+use Rattle.mltl_base.proofs.FixedMembers.{with_members_is}
 use Rattle.mltl_base.specs.declared.operators.FtOp.{FtOp}
 use Rattle.mltl_base.specs.declared.program.Program.{Program}
 use Rattle.mltl_base.specs.Atoms.{Row}

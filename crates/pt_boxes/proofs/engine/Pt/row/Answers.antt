@@ -2,8 +2,8 @@ use Rattle.std.proofs.Common.{◌≡◌, ℕ, ◌+◌, ◌<◌, ◌≤◌, ◌^�
 use Rattle.std.specs.List.{slice_get}
 use Rattle.std.proofs.lemmas.List.{length-map}
 use Rattle.std.proofs.lemmas.List.Elements.{All-get_or}
-use Rattle.fixed_list.specs.Lending.{with_members}
-use Rattle.fixed_list.proofs.Members.{with_members_is}
+use Rattle.mltl_base.specs.Lending.{with_members}
+use Rattle.mltl_base.proofs.FixedMembers.{with_members_is}
 use Rattle.mltl_base.specs.declared.limits.TheConstants.{MAX_BOUND}
 use Rattle.mltl_base.specs.declared.operators.PtOp.{PtOp}
 use Rattle.mltl_base.specs.declared.operators.PtOp.TheVariants.{True}

@@ -2,7 +2,7 @@
 use Rattle.std.proofs.Common.{◌∙◌, refl, ap, arith}
 use Rattle.c2po_ast.specs.Shape.{shape}
 use Rattle.c2po_ast.specs.ItemShape.{define}
-use Rattle.c2po_unfold.specs.Environment.{declare, value, value_of}
+use Rattle.c2po_types.specs.Environment.{declare, value, value_of}
 use Rattle.set_expand.specs.declared.items.Unfolded.{Unfolded}
 use Rattle.set_expand.proofs.Stepping.{stands-after}
 use Rattle.set_expand.proofs.items.Unfolded.after_define.Goals as goal

@@ -2,7 +2,7 @@
 use Rattle.std.proofs.Common.{◌++◌, ◌∙◌, List, ap, subst, sym}
 use Rattle.c2po_ast.specs.Shape.{shape}
 use Rattle.c2po_ast.specs.ItemShape as item
-use Rattle.c2po_nodes.specs.declared.nodes.PlainOut.{PlainOut}
+use Rattle.c2po_ast.specs.declared.nodes.PlainOut.{PlainOut}
 use Rattle.c2po_types.specs.Outputs.{asked_at, place_after, name_of}
 use Rattle.set_expand.specs.declared.items.Unfolded.{Unfolded}
 use Rattle.set_expand.specs.Unfolded.{StandsAt}

@@ -1,7 +1,7 @@
 -- A struct declares no signals, and unfolds to nothing.
 use Rattle.std.proofs.Common.{◌∙◌, refl, ap, map, arith}
 use Rattle.c2po_ast.specs.ItemShape.{structure, field_shape}
-use Rattle.c2po_unfold.specs.Environment.{declare, fields}
+use Rattle.c2po_types.specs.Environment.{declare, fields}
 use Rattle.set_expand.specs.declared.items.Unfolded.{Unfolded}
 use Rattle.set_expand.proofs.Growing.{more_same}
 use Rattle.set_expand.proofs.Stepping.{stands-after}

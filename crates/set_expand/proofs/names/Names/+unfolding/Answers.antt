@@ -2,12 +2,12 @@ use Rattle.std.proofs.Common.{◌≡◌, ◌+◌, ◌<◌, ℕ, false, Some, Lis
 use Rattle.std.proofs.lemmas.Grind.{common_steps}
 use Rattle.std.proofs.lemmas.List.{length-map}
 use Rattle.std.proofs.lemmas.Option.{get_or_from_slice_get, slice_get-get_or, slice_get_within}
-use Rattle.c2po_nodes.proofs.Pushing.{is_formula}
+use Rattle.c2po_ast.proofs.Pushing.{is_formula}
 use Rattle.c2po_ast.specs.Shape.{shape}
-use Rattle.c2po_unfold.specs.Values.{members, formula_of, truth_value, connected_all, counted}
-use Rattle.c2po_unfold.specs.Environment.{value_of}
-use Rattle.c2po_unfold.specs.Operators.{bodies_over, bodies_of, body_value, operation_value}
-use Rattle.c2po_unfold.proofs.Loops.{member_at}
+use Rattle.c2po_types.specs.Values.{members, formula_of, truth_value, connected_all, counted}
+use Rattle.c2po_types.specs.Environment.{value_of}
+use Rattle.c2po_types.specs.Operators.{bodies_over, bodies_of, body_value, operation_value}
+use Rattle.c2po_types.proofs.Loops.{member_at}
 use Rattle.set_expand.proofs.Members.{bodies_count, body_at}
 use Rattle.set_expand.specs.declared.nodes.Made.TheVariants as made
 use Rattle.set_expand.specs.Heads.{env_in, head_value}

@@ -1,5 +1,5 @@
 use Rattle.std.proofs.Common.{◌+◌, ◌*◌}
-use Rattle.c2po_unfold.specs.Operators.{bodies_over}
+use Rattle.c2po_types.specs.Operators.{bodies_over}
 use Rattle.set_expand.specs.Heads.{env_in, head_value}
 use Rattle.set_expand.proofs.Gates.{CountedSoFar}
 use Rattle.set_expand.proofs.Joining.{JoinedSoFar}

@@ -1,6 +1,6 @@
 use Rattle.std.proofs.Common.{sym, ap, subst}
 use Rattle.c2po_ast.specs.Shape.{shape}
-use Rattle.c2po_unfold.specs.Environment.{value, value_of}
+use Rattle.c2po_types.specs.Environment.{value, value_of}
 use Rattle.set_expand.specs.Nodes.{MadeAs}
 use Rattle.set_expand.proofs.names.Names.entry_of.Goals as goal
 

@@ -1,7 +1,7 @@
 use Rattle.std.proofs.Common.{sym, subst, get_or, length}
-use Rattle.c2po_nodes.specs.Nodes.{Has, formula}
+use Rattle.c2po_ast.specs.Nodes.{Has, formula}
 use Rattle.count_sets.specs.Gates.{formula_of_gate, gate_meaning, IsOver}
-use Rattle.c2po_unfold.specs.Values.{counted_formula}
+use Rattle.c2po_types.specs.Values.{counted_formula}
 use Rattle.set_expand.proofs.Gates.{truth_has, bodies_have, place_is, earlier_has, both_has, either_has, not_has}
 use Rattle.set_expand.proofs.names.Names.gate.Goals as goal
 

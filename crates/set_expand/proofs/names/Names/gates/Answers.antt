@@ -4,8 +4,8 @@ use Rattle.std.proofs.lemmas.Option.{slice_get_within}
 use Rattle.count_sets.specs.Counting.{counting}
 use Rattle.count_sets.specs.Gates.{gate_formulas, last_formula}
 use Rattle.count_sets.proofs.Unfolding.{length-formulas}
-use Rattle.c2po_nodes.specs.Nodes.{Has, formula}
-use Rattle.c2po_unfold.specs.Values.{counted_formula}
+use Rattle.c2po_ast.specs.Nodes.{Has, formula}
+use Rattle.c2po_types.specs.Values.{counted_formula}
 use Rattle.set_expand.proofs.Gates.{counting_min}
 use Rattle.set_expand.proofs.names.Names.gates.Goals as goal
 

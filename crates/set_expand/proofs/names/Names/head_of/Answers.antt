@@ -1,8 +1,8 @@
 use Rattle.std.proofs.Common.{ap, sym, ◌∙◌}
 use Rattle.c2po_ast.specs.Shape.{shapes}
 use Rattle.c2po_ast.proofs.Rows.{shape_of-Build, shape_of-Group}
-use Rattle.c2po_unfold.specs.Values.{built, grouped}
-use Rattle.c2po_unfold.specs.Environment.{value_of, values_of}
+use Rattle.c2po_types.specs.Values.{built, grouped}
+use Rattle.c2po_types.specs.Environment.{value_of, values_of}
 use Rattle.set_expand.specs.Heads.{env_in, named_value}
 use Rattle.set_expand.proofs.names.Names.head_of.Goals as goal
 

@@ -1,11 +1,11 @@
 use Rattle.std.proofs.Common.{refl, sym, ap, length, arith}
-use Rattle.c2po_unfold.specs.Values.{members}
-use Rattle.c2po_unfold.specs.Environment.{bind}
-use Rattle.c2po_unfold.proofs.Members.{found_at}
-use Rattle.c2po_unfold.proofs.Parts.{no_member}
+use Rattle.c2po_types.specs.Values.{members}
+use Rattle.c2po_types.specs.Environment.{bind}
+use Rattle.c2po_types.proofs.Members.{found_at}
+use Rattle.c2po_types.proofs.StoredParts.{no_member}
 use Rattle.set_expand.specs.Heads.{env_in, head_value}
 use Rattle.set_expand.proofs.Heading.{set_count, other_members}
-use Rattle.set_expand.proofs.Members.{member_open}
+use Rattle.c2po_types.proofs.StoredParts.{member_open}
 use Rattle.set_expand.proofs.names.Names.member_scope.Goals as goal
 
 pub returns-in-Some : goal.returns-in-Some

@@ -1,11 +1,11 @@
 use Rattle.std.proofs.Common.{◌≡◌, ℕ, List, sym, subst, refl, ap, ◌∙◌}
 use Rattle.c2po_ast.specs.Shape.{shape}
-use Rattle.c2po_unfold.specs.Values.{picked}
-use Rattle.c2po_unfold.specs.Environment.{fields_in}
-use Rattle.c2po_unfold.proofs.Members.{found_at}
+use Rattle.c2po_types.specs.Values.{picked}
+use Rattle.c2po_types.specs.Environment.{fields_in}
+use Rattle.c2po_types.proofs.Members.{found_at}
 use Rattle.set_expand.specs.Heads.{IsReached, env_in, named_value}
 use Rattle.set_expand.proofs.Heading.{unbuilt_picked}
-use Rattle.set_expand.proofs.Members.{picked_open, picked_past}
+use Rattle.c2po_types.proofs.StoredParts.{picked_open, picked_past}
 use Rattle.set_expand.proofs.names.Names.part.Goals as goal
 
 pub returns-in-Some-get-clause-value : goal.returns-in-Some-get-clause-value

@@ -1,6 +1,6 @@
 use Rattle.std.proofs.Common.{◌++◌, ◌∷◌, [], sym, subst}
-use Rattle.c2po_nodes.specs.Nodes.{Has, tree_of, trees}
-use Rattle.c2po_nodes.proofs.Pushing.{has_new}
+use Rattle.c2po_ast.specs.Nodes.{Has, tree_of, trees}
+use Rattle.c2po_ast.proofs.Pushing.{has_new}
 use Rattle.set_expand.specs.Nodes.{IsMore}
 use Rattle.set_expand.proofs.Growing.{more_push}
 use Rattle.set_expand.proofs.names.Names.place.Goals as goal

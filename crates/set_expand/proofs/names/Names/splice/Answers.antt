@@ -2,8 +2,8 @@ use Rattle.std.proofs.Common.{◌+◌, ◌-◌, false, List, ℕ, map, sym, subs
 use Rattle.std.proofs.lemmas.List.{get_or_default}
 use Rattle.std.proofs.lemmas.Option.{slice_get-get_or}
 use Rattle.count_sets.specs.declared.gate.Gate.TheVariants.{Truth}
-use Rattle.c2po_nodes.specs.Nodes.{Has, formula}
-use Rattle.c2po_unfold.specs.Values.{counted_formula}
+use Rattle.c2po_ast.specs.Nodes.{Has, formula}
+use Rattle.c2po_types.specs.Values.{counted_formula}
 use Rattle.set_expand.specs.Nodes.{HaveFormulas}
 use Rattle.set_expand.proofs.Gates.{SplicedSoFar, spliced_start, spliced_more, spliced_last}
 use Rattle.set_expand.proofs.names.Names.splice.Goals as goal

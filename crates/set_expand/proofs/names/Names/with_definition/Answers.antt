@@ -1,5 +1,5 @@
 use Rattle.std.proofs.Common.{◌≡◌, ◌∙◌, ap, sym, subst}
-use Rattle.c2po_unfold.specs.Environment.{declare}
+use Rattle.c2po_types.specs.Environment.{declare}
 use Rattle.set_expand.specs.Nodes.{HaveNodes}
 use Rattle.set_expand.specs.Names.{AreNumbered, SignalsBelow, env_now, with_name}
 use Rattle.set_expand.proofs.Naming.{now_with, numbered_with, below_with, kept_with}

@@ -1,7 +1,7 @@
 use Rattle.std.proofs.Common.{◌≡◌, ◌+◌, ◌∙◌, Some, drop, slice_get, refl, sym, ap, arith}
 use Rattle.c2po_types.specs.Outputs.{with_signals}
-use Rattle.c2po_unfold.specs.Environment.{declare, value, signal_value}
-use Rattle.c2po_unfold.proofs.Members.{found_at}
+use Rattle.c2po_types.specs.Environment.{declare, value, signal_value}
+use Rattle.c2po_types.proofs.Members.{found_at}
 use Rattle.set_expand.specs.Names.{env_now}
 use Rattle.set_expand.proofs.Stepping.{signals-next, signals-end, below-more, signals_named}
 use Rattle.set_expand.proofs.names.Names.with_signals.Goals as goal

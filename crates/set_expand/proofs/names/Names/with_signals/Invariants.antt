@@ -1,5 +1,5 @@
 use Rattle.std.proofs.Common.{◌≡◌, ◌+◌, List, drop}
-use Rattle.c2po_nodes.specs.declared.nodes.Plain.{Plain}
+use Rattle.c2po_ast.specs.declared.nodes.Plain.{Plain}
 use Rattle.c2po_types.specs.Outputs.{with_signals}
 use Rattle.set_expand.specs.Names.{SignalsBelow, env_now}
 use Rattle.set_expand.specs.Nodes.{HaveNodes}

@@ -1,6 +1,6 @@
 use Rattle.std.proofs.Common.{◌≡◌, ◌∙◌, ℕ, Some, List, map, slice_get, ap, sym, subst}
 use Rattle.c2po_ast.specs.ItemShape.{field_shape}
-use Rattle.c2po_unfold.proofs.Members.{at_place}
+use Rattle.c2po_types.proofs.Members.{at_place}
 use Rattle.set_expand.specs.declared.names.Entry.TheVariants.{Struct}
 use Rattle.set_expand.specs.Nodes.{HaveNodes}
 use Rattle.set_expand.specs.Names.{AreNumbered, SignalsBelow, env_now, with_name}

@@ -1,6 +1,6 @@
 use Rattle.std.proofs.Common.{◌≡◌, ap, subst, ◌∙◌, List, length}
-use Rattle.fixed_list.specs.Lending.{with_members}
-use Rattle.fixed_list.proofs.Members.{with_members_is}
+use Rattle.mltl_base.specs.Lending.{with_members}
+use Rattle.mltl_base.proofs.FixedMembers.{with_members_is}
 use Rattle.mltl_base.specs.declared.operators.BzOp.{BzOp}
 use Rattle.mltl_base.specs.declared.program.Program.{Program}
 use Rattle.std.proofs.lemmas.List.{length-replicate}

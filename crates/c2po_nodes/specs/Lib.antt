@@ -1,4 +1,0 @@
-pub mod Nodes
-pub mod Outputs
-pub mod Faults
-pub mod Tenses

@@ -1,7 +1,0 @@
-use Rattle.c2po_unfold.proofs.Repeating.{put_more}
-use Rattle.c2po_unfold.proofs.each.Each.put.Goals as goal
-
-pub loop-i-preserved : goal.loop-i-preserved
-loop-i-preserved c =
-    put_more c.args.self.now c.loop-i.i c.args.all.now.items c.loop-i.all.items c.add.new.all.items c.in-Some.known.now c.loop-i.invariant
-    c.in_ok-add.ensures c.in-Some.ensures

@@ -1,9 +1,0 @@
-use Rattle.std.proofs.Common.{◌≡◌, replicate}
-use Rattle.fixed_list.proofs.fixed.Fixed.filled.Given as goal
-
-abbrev pub invariant-loop : goal.invariant-loop
-invariant-loop g l = record {
-  capacity : l.items.cap ≡ l.count;
-  len : l.items.len ≡ l.counter;
-  items : l.items.items ≡ replicate l.counter l.value;
-}

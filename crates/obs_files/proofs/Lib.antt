@@ -1,3 +1,0 @@
-pub mod NameLaws
-pub mod Opening
-pub mod Spelled

@@ -1,5 +1,0 @@
-use Rattle.obs_files.proofs.NameLaws.{names_upgraded}
-use Rattle.obs_files.proofs.laws.upgraded_names_fit.Goals as goal
-
-pub returns : goal.returns
-returns c = names_upgraded

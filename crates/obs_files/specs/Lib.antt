@@ -1,4 +1,0 @@
-pub mod Faults
-pub mod Names
-pub mod Texts
-pub use Rattle.obs_binary.specs.Layout

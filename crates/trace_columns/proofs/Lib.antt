@@ -1,0 +1,4 @@
+pub mod PlaceLaws
+pub mod CsvLaws
+pub mod ColumnLaws
+pub mod StoredLaws

@@ -1,0 +1,4 @@
+pub mod Blanks
+pub mod Header
+pub mod Places
+pub mod HeaderTexts

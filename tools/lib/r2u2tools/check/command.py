@@ -1,0 +1,118 @@
+"""Checks specifications, and says at which token each fault is.
+
+usage: check [--json] [--sarif] SPEC..
+       check --format [--diff] [--write] SPEC..
+       check --server
+
+Each fault is printed as compilers do, FILE:LINE:COLUMN: error: and what is
+wrong, with the line, a mark below the token, and what to write instead. More
+than the first fault is found where items don't depend on one another. The
+verdict is that of c2po, whose own message is the last line of a file that it
+refuses. SPEC may be `-`, the standard input.
+
+  $ r2u2-check flight.c2po
+  flight.c2po:2:24: error: unknown name 'grnt' (did you mean 'grant'?)
+    FTSPEC granted: request -> F[0,3] grnt;
+
+--format prints a specification with its blanks set in one way; comments and
+line ends stay, and the compiled program is the same.
+
+--server is a language server over the standard input and output, for editors:
+faults as one types, kind and cost of the name under the pointer, definitions,
+completion and layout.
+
+The exit code is 0 where c2po takes all, 1 where it refuses one, or where
+--diff found other blanks, and 2 where a file can't be read or c2po isn't there.
+"""
+
+import difflib
+import os
+import sys
+from argparse import Namespace
+from pathlib import Path
+
+from r2u2tools.check import layout, report
+from r2u2tools.check.faults import check
+from r2u2tools.check.server import Server
+from r2u2tools.check.source import decoded, encoded
+from r2u2tools.common import cli
+from r2u2tools.common.specs import MAGIC
+
+LARGEST = 1 << 20
+
+
+def asked() -> Namespace:
+    words = cli.words(__doc__)
+    words.add_argument("--json", action="store_true", help="print one object of JSON")
+    words.add_argument("--sarif", action="store_true", help="print SARIF 2.1.0, as tools for reviews of code take it")
+    words.add_argument("--format", action="store_true", help="print the specification with its blanks set in one way")
+    words.add_argument("--diff", action="store_true", help="with --format: print what would change")
+    words.add_argument("--write", action="store_true", help="with --format: change the file")
+    words.add_argument("--server", action="store_true", help="serve an editor by the language server protocol")
+    words.add_argument("specs", metavar="SPEC", nargs="*", help="a specification, or - for the standard input")
+    found = words.parse_args()
+    if found.server == bool(found.specs):
+        words.error("give specifications, or --server alone")
+    if (found.diff or found.write) and not found.format:
+        words.error("--diff and --write need --format")
+    if found.write and "-" in found.specs:
+        words.error("--write needs files")
+    return found
+
+
+def text_of(path: str) -> str:
+    """A specification as text; no more of it is read than c2po takes."""
+    with cli.opened(path) as file:
+        raw = file.read(LARGEST + 1)
+    if raw.startswith(MAGIC):
+        raise cli.Trouble(f"{path}: a compiled program, not a specification")
+    if len(raw) > LARGEST:
+        raise cli.Trouble(f"{path}: longer than {LARGEST} bytes")
+    return decoded(raw)
+
+
+def written(text: str) -> None:
+    sys.stdout.flush()
+    sys.stdout.buffer.write(encoded(text))
+    sys.stdout.buffer.flush()
+
+
+def replaced(path: str, text: str) -> None:
+    try:
+        Path(path).write_bytes(encoded(text))
+    except OSError as fault:
+        raise cli.told_os(path, "write", fault) from None
+
+
+def formatted(found: Namespace) -> int:
+    """Formats files: to the standard output, or into the files, or only what would change."""
+    changed = False
+    for path in found.specs:
+        text = text_of(path)
+        new = layout.laid_out(text)
+        changed |= new != text
+        if found.diff:
+            lines = difflib.unified_diff(text.splitlines(True), new.splitlines(True), path, path)
+            written("".join(line if line.endswith("\n") else line + "\n" for line in lines))
+        elif not found.write:
+            written(new)
+        elif new != text:
+            replaced(path, new)
+    return 1 if found.diff and changed else 0
+
+
+def main() -> int:
+    found = asked()
+    if found.server:
+        # A separate stream: a thread that still waits for it must not find it closed with the interpreter.
+        return Server(os.fdopen(os.dup(0), "rb"), sys.stdout.buffer).run()
+    if found.format:
+        return formatted(found)
+    checked = [(path, check(text_of(path))) for path in found.specs]
+    if found.json or found.sarif:
+        print(report.as_sarif(checked) if found.sarif else report.as_json(checked))
+    else:
+        for path, told in checked:
+            for line in report.as_text(path, told):
+                print(line)
+    return 1 if any(told.answer.status for _, told in checked) else 0

@@ -1,0 +1,166 @@
+"""Counts the verdict lines of r2u2, so that a verdict can fail a build.
+
+usage: verdicts [--json | --junit] [--ignore NAME] [--spec FILE] [--log NAME]
+                [--exercised] [--fail-untried] [--fail-undecided] [LINES]
+       verdicts [--json | --junit] [--ignore NAME] [--log NAME] [--exercised]
+                [--fail-untried] [--fail-undecided] -- r2u2 ...
+       verdicts --diff OTHER [LINES]
+       verdicts --merge [--json | --junit] [--ignore NAME] [--fail-untried]
+                [--fail-undecided] RESULT..
+
+LINES is a file of verdict lines, by default the standard input. For each output
+the table has the number of times with each word, the first F or invalid, how
+many stretches of them there are, how many times the longest has and where the
+last one is, how far the output is decided, and how many times at the end of the
+trace are still undecided. After `--` comes a command, which is run: where it
+fails, its code and its message are kept. With --exercised the table also has,
+for each output that is an implication or a contract, how often its left side
+was true: if it never was, the output shows nothing about the system. For this
+r2u2 runs once more over the same trace, with the left sides as outputs.
+
+The status is 0 where all outputs have verdicts and none has F or invalid. It is
+1 where an output has one, or has no verdict, or where there is no verdict at
+all; with --fail-untried also where a left side was never true, and with
+--fail-undecided where an output is undecided at any time. It is 2 where the
+command failed or something can't be read. With --diff it is 0 where both files
+agree, 1 where they differ and 2 where one can't be read.
+
+example: verdicts --junit -- r2u2 --source grant.c2po log.csv > result.xml
+"""
+
+import sys
+import time
+from argparse import Namespace
+from typing import Optional
+
+from r2u2tools.common import cli
+from r2u2tools.verdicts.left_sides import exercised, from_contracts, runs_twice
+from r2u2tools.common.r2u2_run import Command
+from r2u2tools.common.specs import read_spec
+from r2u2tools.common.cli import Trouble
+from r2u2tools.verdicts.counts import Result, Rules, counted, rows_of
+from r2u2tools.verdicts.diff import told_diff
+from r2u2tools.verdicts.junit import as_junit
+from r2u2tools.verdicts.merge import merged
+from r2u2tools.verdicts.records import as_json
+from r2u2tools.verdicts.table import as_table
+
+
+def parser() -> cli.Words:
+    """The options."""
+    words = cli.words(__doc__)
+    form = words.add_mutually_exclusive_group()
+    form.add_argument("--json", action="store_true", help="print one object of JSON in place of the table")
+    form.add_argument("--junit", action="store_true", help="print a test for each output, for continuous integration")
+    words.add_argument(
+        "--ignore", metavar="NAME", action="append", default=[],
+        help="an output that may have F or invalid, or no verdict",
+    )
+    words.add_argument("--spec", metavar="FILE", help="a specification or program, for outputs without a line")
+    words.add_argument("--log", metavar="NAME", help="the name of the log in --json, --junit and --merge")
+    words.add_argument("--exercised", action="store_true", help="count how often left sides were true")
+    words.add_argument("--fail-untried", action="store_true", help="status 1 where a left side was never true")
+    words.add_argument("--fail-undecided", action="store_true", help="status 1 where a time is undecided")
+    words.add_argument("--diff", metavar="OTHER", help="print where LINES and OTHER differ")
+    words.add_argument("--merge", action="store_true", help="make one result of many files that --json printed")
+    words.add_argument("files", metavar="LINES", nargs="*", help="verdict lines; with --merge, files of --json")
+    return words
+
+
+def asked() -> Namespace:
+    """The arguments; those after `--` are a command."""
+    words, given = parser(), sys.argv[1:]
+    place = given.index("--") if "--" in given else len(given)
+    found, found.command = words.parse_args(given[:place]), given[place + 1 :]
+    fault = misused(found, place < len(given))
+    if fault:
+        words.error(fault)
+    return found
+
+
+def misused(found: Namespace, dashes: bool) -> Optional[str]:
+    """What doesn't fit together in the arguments, or None."""
+    if dashes and not found.command:
+        return "no command after --"
+    if found.command and (found.files or found.merge or found.diff):
+        return "a command after -- excludes LINES, --merge and --diff"
+    if found.merge and not found.files:
+        return "--merge needs files that --json printed"
+    if not found.merge and len(found.files) > 1:
+        return "one file of LINES at a time"
+    alone = found.merge or found.json or found.junit or found.exercised or found.ignore
+    if found.diff and (alone or found.fail_untried or found.fail_undecided):
+        return "--diff takes no other option"
+    if found.merge and found.exercised:
+        return "--exercised belongs to the runs, before --merge"
+    if found.fail_untried and not (found.exercised or found.merge):
+        return "--fail-untried needs --exercised"
+    return None
+
+
+def one_result(found: Namespace) -> Result:
+    """The result of one log: of a command that is run, or of lines that are read."""
+    began = time.monotonic()
+    result = of_command(found) if found.command else of_lines(found)
+    if found.exercised:
+        from_contracts(result)
+    result.close()
+    result.seconds = time.monotonic() - began
+    return result
+
+
+def of_command(found: Namespace) -> Result:
+    """The result of a run."""
+    command = Command(found.command)
+    if found.exercised:
+        runs_twice(command)
+    told = command.r2u2
+    result = Result(found.log or command.log(), spec=told.file if told else None)
+    take_spec(result, found.spec or result.spec, found.spec is None)
+    command.run(lambda file: counted(file, result), result)
+    if told and told.trace != "-":
+        result.rows = rows_of(told.trace, "--timed" in told.flags)
+    if found.exercised and not result.failed and not result.stopped:
+        exercised(command, result)
+    return result
+
+
+def of_lines(found: Namespace) -> Result:
+    """The result of lines that are read."""
+    path = found.files[0] if found.files else "-"
+    result = Result(found.log or (None if path == "-" else path), spec=found.spec)
+    take_spec(result, found.spec, False)
+    with cli.opened(path) as file:
+        counted(file, result)
+    return result
+
+
+def take_spec(result: Result, path: Optional[str], lenient: bool) -> None:
+    """Adds the outputs of a specification or program with their texts; r2u2 reports what is wrong with its own."""
+    if path is None or path == "-":
+        return
+    try:
+        spec = read_spec(path)
+    except Trouble:
+        if lenient:
+            return
+        raise
+    result.spec = result.spec or path
+    for output in spec.outputs:
+        body = output.body
+        text = " ".join(spec.text[body[0].start : body[-1].end].split()) if body and not spec.is_program() else ""
+        result.output(output.name).requirement = text
+
+
+def main() -> int:
+    found = asked()
+    if found.diff:
+        return told_diff(found.files[0] if found.files else "-", found.diff)
+    result = merged(found.files) if found.merge else one_result(found)
+    for name in found.ignore:
+        if name not in result.outputs:
+            cli.note(f"no output {name}, which is to be ignored")
+    rules = Rules(tuple(found.ignore), found.fail_untried, found.fail_undecided)
+    form = as_json if found.json else as_junit if found.junit else as_table
+    print(form(result, rules))
+    return result.status(rules)

@@ -1,0 +1,100 @@
+"""Explains why a verdict is what it is.
+
+usage: why [--timed] [--begin ROW] [--html FILE] SPEC TRACE NAME:TIME
+
+SPEC is a specification or a compiled program, TRACE a trace as r2u2 takes it,
+`-` for the standard input, and NAME:TIME an output and a time, as in a verdict
+line; the whole line may be pasted, as granted:2,F. With --begin TRACE is the
+rest of a longer one, and begins with that row, or with that stamp.
+
+The first line names what decides the verdict: signals at rows. Below it are
+the parts of the formula between the verdict and those rows, the smallest
+first, in the words of SPEC where it writes them. The cells that the first line
+names decide the verdict: whatever the others hold, it is the same. Of an open
+verdict they are the cells to come on which it depends.
+
+The verdicts of the parts are those of r2u2, which watches the text of the
+program (c2po --show) with each part as an output, over the rows that the
+windows of the verdict reach. Where a verdict follows in several ways, a way
+with few cells is chosen, and a cell that isn't needed is left out: r2u2 finds
+that over rows with other values there. Long windows, of more than 256 cells or
+of thousands of times of the parts, aren't tried so.
+
+The exit code is 0 where the reasons are printed, and 2 where something can't be
+read or SPEC hasn't such an output.
+
+example: r2u2-why grant.c2po grant.csv granted:2
+"""
+
+import re
+import sys
+import tempfile
+from dataclasses import dataclass
+from pathlib import Path
+from typing import Optional
+
+from r2u2tools.common import cli
+from r2u2tools.common.cli import Trouble
+from r2u2tools.common.compiled import compiled
+from r2u2tools.why.explanation import Explainer
+from r2u2tools.why.html_page import page
+from r2u2tools.why.sentences import Sentences, no_row
+from r2u2tools.why.trace_window import Cells
+
+ASKED = re.compile(r"([A-Za-z0-9_]{1,64}):([0-9]{1,13})(?:,(T|F|inactive|invalid|verified))?")
+DEEPEST = 200_000
+
+
+@dataclass
+class Question:
+    """What was asked for; `word` is that of a verdict line which was pasted."""
+
+    spec: str
+    trace: str
+    name: str
+    time: int
+    word: Optional[str]
+    timed: bool
+    begin: int
+    html: Optional[str]
+
+
+def asked() -> Question:
+    words = cli.words(__doc__)
+    words.add_argument("--timed", action="store_true", help="the rows of the trace have stamps")
+    words.add_argument("--begin", metavar="ROW", type=cli.count, default=0, help="the first row of TRACE, the rest of a longer one")
+    words.add_argument("--html", metavar="FILE", help="write a page that marks the cells in the rows around them")
+    words.add_argument("spec", metavar="SPEC", help="a specification or a compiled program")
+    words.add_argument("trace", metavar="TRACE", help="a trace, or - for the standard input")
+    words.add_argument("verdict", metavar="NAME:TIME", help="an output and a time, or a verdict line")
+    found = words.parse_args()
+    verdict = ASKED.fullmatch(found.verdict.strip())
+    if not verdict:
+        raise Trouble(f"no verdict is called {found.verdict}: write NAME:TIME, as in granted:2")
+    return Question(found.spec, found.trace, verdict[1], int(verdict[2]), verdict[3], found.timed, found.begin, found.html)
+
+
+def explain(asked: Question, folder: Path) -> int:
+    made = compiled(asked.spec, folder)
+    told = made.shown.output(asked.name)
+    explainer = Explainer(made, told, folder)
+    window = explainer.window(asked.trace, asked.time, asked.timed, asked.begin)
+    if asked.time >= window.rows:
+        print(no_row(asked.name, asked.time, window.rows, asked.timed))
+        return 0
+    found = explainer.explain(window, asked.time)
+    trace = Cells(window, explainer.signals)
+    says = Sentences(made.shown, trace, asked.timed)
+    lines = [says.first_line(found, asked.name, asked.time), *says.tree(found)]
+    print("\n".join(lines))
+    if asked.word and asked.word != found.word:
+        cli.note(f"the line has {asked.word}, and over this trace the verdict is {found.word or 'open'}")
+    if asked.html:
+        cli.write(asked.html, page(lines, told.name, found, asked.time, trace, explainer.kinds()))
+    return 0
+
+
+def main() -> int:
+    sys.setrecursionlimit(DEEPEST)
+    with tempfile.TemporaryDirectory(prefix="why-") as folder:
+        return explain(asked(), Path(folder))
