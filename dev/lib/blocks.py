@@ -11,7 +11,7 @@ The word after the three backticks says what a block is:
   sh        a script, which has to parse; commands that a test can run belong into console
   rattle    lines of a crate
   antt      lines of a definition, which dev/pages compares
-  yaml, json, groovy, text   anything else
+  yaml, json, toml, groovy, text   anything else
 
 `title="NAME"` makes a file of the block, in a folder that all blocks of a page
 share. `file="PATH"` says that the block is a file of the repository, which other
@@ -36,7 +36,7 @@ from typing import Dict, Iterator, List, Optional
 
 SECONDS = 240
 FENCE = re.compile(r"^( *)```(\w*)([^\n`]*)\n(.*?)^\1```[ \t]*$", re.S | re.M)
-KNOWN = {"console", "c2po", "csv", "c", "cpp", "python", "sh", "rattle", "antt", "yaml", "json", "groovy", "text"}
+KNOWN = {"console", "c2po", "csv", "c", "cpp", "python", "sh", "rattle", "antt", "yaml", "json", "toml", "groovy", "text"}
 # Commands that a test of two minutes can't run: they prove, build, install, or need other machines.
 UNTRIED = {"make", "rt", "apt-get", "sbatch", "cargo", "git", "bench/run", "pkg-config", "--sshloginfile"}
 # What compiles listings.
