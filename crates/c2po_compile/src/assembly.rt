@@ -35,8 +35,9 @@ pub fn build(
     ensures refused { IfErr result (IsReason (asked_in columns.now.of_signal spec.now)) }
 {
     let graph = to_core(alloc, spec, columns)?;
-    let Timing { delays, sizes } = timing_of(alloc, &graph)?;
+    let timing = timing_of(alloc, &graph)?;
     let stored = store_signals(alloc, signals.as_slice(), columns.of_signal.as_slice())?;
+    let Timing { delays, sizes } = timing;
     let Graph { bz, ft, pt, outs } = graph;
     let program = Program {
         version: 2,
