@@ -144,13 +144,16 @@ static void empty_block_at_the_end(void) {
     r2u2_pool_make(&other, NULL, 0);
 }
 
-/* The header of a program of version 1 that has `count` bytes only if sums wrap at 32 bits isn't that of a program. */
+/* The header of a program of version 1 that has `count` bytes only if sums wrap at 32 bits isn't that of a program, and none of
+ * the instructions that it counts is read. */
 static void counts_that_wrap(void) {
     uint8_t program[64] = {'M', 'L', 'T', 'L', 1};
-    program[15] = 0x20; /* 2^29 instructions, of 24 bytes each: 3 * 2^32 */
-    CHECK(r2u2_open_bytes(program, 32) == 0 && r2u2_open_under_bytes(program, 32, "#a", 2) == 0);
+    for (size_t part = 15; part <= 23; part += 4) {
+        program[part] = 0x20; /* 2^29 instructions, of 24 bytes each: 3 * 2^32 */
+        CHECK(r2u2_open_bytes(program, 32) == 0 && r2u2_open_under_bytes(program, 32, "#a", 2) == 0);
+        program[part] = 0;
+    }
     CHECK(r2u2_open_bytes(program, 31) == 0 && r2u2_open_bytes(program, 0) == 0);
-    program[15] = 0;
     CHECK(r2u2_open_bytes(program, 32) > 0 && r2u2_open_under_bytes(program, 32, "#a,b", 4) > r2u2_open_bytes(program, 32));
 }
 
