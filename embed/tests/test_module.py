@@ -3,11 +3,16 @@
     R2U2_LIBRARY=build/libr2u2.so python3 -m unittest embed/tests/test_module.py
 """
 
+import copy
+import ctypes
 import os
+import pickle
 import subprocess
 import sys
 import unittest
 from array import array
+from decimal import Decimal
+from fractions import Fraction
 from pathlib import Path
 from types import SimpleNamespace
 
@@ -58,6 +63,7 @@ class Sequences(Module):
         self.assertEqual(self.words([array("b", row) for row in ROWS]), WORDS)
         self.assertEqual(self.words([[float(it) for it in row] for row in ROWS]), WORDS)
         self.assertEqual(self.words([[bool(it) for it in row] for row in ROWS]), WORDS)
+        self.assertEqual(self.words([[Fraction(it), Decimal(other)] for it, other in ROWS]), WORDS)
         self.assertEqual(self.words([]), [])
 
     def test_one_row_of_any_sequence(self):
@@ -76,8 +82,10 @@ class Sequences(Module):
             self.assert_raises(ValueError, "column 2: 0.5 is not a whole number", take, [0, 0.5])
             self.assert_raises(ValueError, "column 1: nan is not a whole number", take, [float("nan"), 0])
             self.assert_raises(ValueError, "column 1: 'a' is not a whole number", take, ["a", 0])
-            self.assert_raises(TypeError, "not bytes", take, b"\0\1")
-            self.assert_raises(TypeError, "not str", take, "01")
+            self.assert_raises(ValueError, "Fraction(1, 2) is not a whole number", take, [0, Fraction(1, 2)])
+            for row in (b"\0\1", "01", 1, None, {0, 1}, {0: 0, 1: 1}):
+                self.assert_raises(TypeError, f"not {type(row).__name__}", take, row)
+        self.assert_raises(TypeError, "rows are an iterable of rows or a buffer, and not int", self.monitor.row_many, 1)
         self.assertEqual(self.monitor.rows, 0)
 
     def test_rows_that_do_not_fit(self):
@@ -95,6 +103,25 @@ class Sequences(Module):
         self.assertEqual(self.words(array("i", flat)), WORDS)
         self.assert_raises(ValueError, "11 numbers are not whole rows of a program of 2 columns", self.words, flat[:11])
         self.assert_raises(ValueError, "0.5 is not a whole number", self.words, array("d", [0, 0.5]))
+
+    def test_addresses_are_aligned(self):
+        """The library takes aligned numbers, wherever the buffer of a row or of rows begins."""
+        shifted = memoryview(bytearray(1) + array("q", [0, 1, 0, 1]).tobytes())[1:]
+        for buffer in (shifted.cast("q"), shifted.toreadonly().cast("q")):
+            self.assertEqual(ctypes.addressof(r2u2._integers(buffer)) % 8, 0)
+            self.assertEqual(self.words(buffer), ["T", "T"])
+            self.monitor.reset()
+            self.monitor.row(buffer[:2])
+        aligned = array("q", [0, 1])
+        self.assertEqual(ctypes.addressof(r2u2._integers(memoryview(aligned))), aligned.buffer_info()[0])
+
+    def test_a_monitor_is_not_copied(self):
+        for take in (copy.copy, copy.deepcopy, pickle.dumps):
+            self.assert_raises(TypeError, "neither copied nor pickled", take, self.monitor)
+
+    def test_what_is_no_program(self):
+        for program in ("grant.bin", 5, None):
+            self.assert_raises(TypeError, "a bytes-like object is required", r2u2.Monitor, program)
 
     def test_a_program_without_columns(self):
         with r2u2.Monitor(NO_COLUMNS) as monitor:
@@ -154,6 +181,13 @@ class Arrays(Module):
         self.assertEqual(self.words(rows), WORDS)
         self.assertEqual(self.words(rows[:0]), [])
 
+    def test_masked_numbers_are_missing(self):
+        rows = numpy.ma.array(ROWS)
+        self.assertEqual(self.words(rows), WORDS)
+        rows[3, 1] = numpy.ma.masked
+        self.assert_raises(ValueError, "column 2: masked is not a whole number", self.words, rows)
+        self.assert_raises(ValueError, "column 2: masked is not a whole number", self.monitor.row, rows[3])
+
     def test_numbers_that_do_not_fit(self):
         rows = numpy.array(ROWS, dtype="uint64")
         rows[3, 1] = 2**64 - 1
@@ -162,7 +196,8 @@ class Arrays(Module):
         self.assert_raises(ValueError, "column 2: nan is not a whole number", self.words, numpy.array([[0, numpy.nan]]))
         self.assert_raises(ValueError, "column 1: inf is not a whole number", self.words, numpy.array([[numpy.inf, 0]]))
         self.assert_raises(TypeError, "format", self.words, numpy.array([[1j, 0]]))
-        self.assert_raises(ValueError, "is not a whole number", self.words, numpy.array([["2026-01-01", "2026-01-02"]], dtype="datetime64[D]"))
+        for kind in ("datetime64[D]", "timedelta64[s]"):
+            self.assert_raises(ValueError, "is not a whole number", self.words, numpy.array([[0, 1]], dtype=kind))
 
 
 class Types(unittest.TestCase):

@@ -6,7 +6,7 @@
 
 The library is the file that the variable R2U2_LIBRARY names, otherwise the one next to this file, otherwise libr2u2.so as the
 system finds it. A row is a sequence of whole numbers or a buffer of one dimension, such as array("q") or a row of a numpy array.
-Buffers of 64-bit integers aren't copied.
+Aligned buffers of 64-bit integers are not copied.
 """
 
 import ctypes
@@ -17,7 +17,7 @@ import operator
 import os
 import struct
 from array import array
-from collections.abc import Iterable, Iterator
+from collections.abc import Iterable, Iterator, Mapping, Set
 from typing import Any, NamedTuple, Optional
 
 WORDS = ("F", "T", "inactive", "invalid", "verified")
@@ -155,20 +155,37 @@ def _row_error(code: int, column: int) -> Error:
 
 
 def _whole(number: Any, column: int) -> int:
-    """Returns a number as an int. A float serves if it is whole."""
+    """Returns a number as an int. A float, a Decimal or a Fraction serves if it is whole."""
     try:
         return operator.index(number)
     except TypeError:
-        is_integer = getattr(number, "is_integer", None)
-    if is_integer is None or not is_integer():
+        pass
+    try:
+        whole, parts = number.as_integer_ratio()
+    except (AttributeError, OverflowError, ValueError):
+        parts = 0
+    if parts != 1:
         raise ValueError(f"column {column + 1}: {number!r} is not a whole number")
-    return int(number)
+    return int(whole)
+
+
+def _no_row(it: Any) -> TypeError:
+    return TypeError(f"a row is a sequence of whole numbers, and not {type(it).__name__}")
+
+
+def _items(row: Any) -> "list[Any]":
+    """Returns the items of a sequence or an iterator."""
+    if not isinstance(row, Iterable):
+        raise _no_row(row)
+    return list(row)
 
 
 def _view(rows: Any) -> "Optional[memoryview]":
-    """Returns the buffer of an object, if it has one with numbers in it."""
-    if isinstance(rows, (bytes, bytearray, str)):
-        raise TypeError(f"a row is a sequence of whole numbers, and not {type(rows).__name__}")
+    """Returns the buffer of an object, if it has one with numbers in it, none of which is masked."""
+    if isinstance(rows, (bytes, bytearray, str, Mapping, Set)):
+        raise _no_row(rows)
+    if hasattr(rows, "mask"):
+        return None
     try:
         view = memoryview(rows)
     except (TypeError, ValueError, BufferError):
@@ -177,10 +194,11 @@ def _view(rows: Any) -> "Optional[memoryview]":
 
 
 def _integers(view: "memoryview") -> Any:
-    """Returns the numbers of a buffer as C has them: a buffer of 64-bit integers as it is, others copied."""
+    """Returns the numbers of a buffer as C has them: a buffer of aligned 64-bit integers as it is, others copied."""
     if view.format in ("q", "l") and view.itemsize == 8 and view.c_contiguous and view.nbytes:
         kind = ctypes.c_int64 * (view.nbytes // 8)
-        return kind.from_buffer_copy(view) if view.readonly else kind.from_buffer(view)
+        shared = None if view.readonly else kind.from_buffer(view)
+        return shared if shared and not ctypes.addressof(shared) % 8 else kind.from_buffer_copy(view)
     return _array(_listed(view))
 
 
@@ -209,7 +227,7 @@ def _flat(view: "memoryview") -> "memoryview":
 def _row_of(row: Any) -> "list[int]":
     """Returns the numbers of a row."""
     view = _view(row)
-    return [_whole(number, k) for k, number in enumerate(row)] if view is None else _listed(_flat(view))
+    return [_whole(number, k) for k, number in enumerate(_items(row))] if view is None else _listed(_flat(view))
 
 
 def _numbers(row: Any) -> "tuple[Any, int]":
@@ -219,7 +237,7 @@ def _numbers(row: Any) -> "tuple[Any, int]":
     try:
         if view is not None:
             return _integers(_flat(view)), len(view)
-        listed = list(row) if listed is None else listed
+        listed = _items(row) if listed is None else listed
         try:
             numbers = array("q", listed)
         except TypeError:
@@ -237,9 +255,13 @@ def _unless_done(code: int, fault: _Fault) -> None:
         raise Error(Code(code), text, fault=refused)
 
 
+def _bytes(program: Any) -> bytes:
+    return memoryview(program).tobytes()
+
+
 def bytes_of(program: bytes) -> int:
     """Returns how many bytes a monitor of this program holds while it is open."""
-    found, fault, program = ctypes.c_uint64(), _Fault(), bytes(program)
+    found, fault, program = ctypes.c_uint64(), _Fault(), _bytes(program)
     _unless_done(_library().r2u2_bytes(program, len(program), found, fault), fault)
     return int(found.value)
 
@@ -303,7 +325,7 @@ class Monitor:
         self._call = _library()
         self._it = _Struct()
         self._fault = _RowFault()
-        self._open(bytes(program), header, digest)
+        self._open(_bytes(program), header, digest)
         self.width: int = self._call.r2u2_width(self._it)
         outputs = range(self._call.r2u2_outputs(self._it))
         self.names = [self._name(k) for k in outputs]
@@ -359,6 +381,8 @@ class Monitor:
         program, and Error at the first row that isn't taken."""
         view = _view(rows)
         if view is None:
+            if not isinstance(rows, Iterable):
+                raise TypeError(f"rows are an iterable of rows or a buffer, and not {type(rows).__name__}")
             listed = [row if type(row) in (list, tuple) else _row_of(row) for row in rows]
             return self._listed_rows(listed, runs)
         count = self._rows_in(view)
@@ -461,6 +485,9 @@ class Monitor:
     def close(self) -> None:
         """Closes the monitor, and frees its memory."""
         self._call.r2u2_close_struct(self._it)
+
+    def __reduce__(self) -> Any:
+        raise TypeError("a monitor is neither copied nor pickled: open another one")
 
     def __enter__(self) -> "Monitor":
         return self
