@@ -18,7 +18,7 @@ VERSION = $(shell cat VERSION)
 
 PROGRAMS = r2u2 c2po
 BUILT = $(PROGRAMS:%=build/%)
-TOOLS = budget check compare convert play probe timeline trace verdicts watch why
+TOOLS = budget check compare convert generate play probe timeline trace verdicts watch why
 NAMES = $(PROGRAMS) $(TOOLS:%=r2u2-%)
 
 INTO = $(DESTDIR)$(PREFIX)

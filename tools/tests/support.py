@@ -13,7 +13,7 @@ ROOT = Path(__file__).resolve().parent.parent.parent
 TOOLS = ROOT / "tools"
 DEV = ROOT / "dev"
 # The tools: scripts beside the file that runs them.
-NAMES = sorted(path.name for path in TOOLS.iterdir() if path.is_file() and path.name != "r2u2-tools" and b"r2u2tools.__main__" in path.read_bytes())
+NAMES = sorted(path.name for path in TOOLS.iterdir() if path.is_file() and path.name not in ("pyproject.toml", "r2u2-tools") and b"r2u2tools.__main__" in path.read_bytes())
 # How many seconds a test waits for what comes within one or two where no other work runs.
 PATIENCE = 150
 # Whether dev/coverage measures: tools take several times longer then.

@@ -167,7 +167,7 @@ class Installed(Case):
     def make(self, goal):
         for name in ("r2u2", "c2po"):
             self.file(name, "#!/bin/sh\n").chmod(0o755)
-        for name in ("libr2u2.a", "libr2u2_heap.a", "libr2u2.so"):
+        for name in ("libr2u2.a", "libr2u2_heap.a", "libr2u2_arena.a", "libr2u2.so"):
             self.file(name, "")
         line = 'make -C "$ROOT" -s "$GOAL" DESTDIR="$INTO" PREFIX=/usr BUILT="$FOLDER/r2u2 $FOLDER/c2po" EMBED="$FOLDER" SHARED_OBJECT="$FOLDER/libr2u2.so"'
         told = shell(line, ROOT=ROOT, GOAL=goal, INTO=self.folder / "into", FOLDER=self.folder)
@@ -186,7 +186,7 @@ class Installed(Case):
             status, out, errors = shell('"$TOOL" --help', TOOL=self.folder / "into/usr/bin" / name)
             self.assertEqual((status, errors), (0, ""))
             self.assertIn(f"usage: {name} ", out)
-        for path in ("lib/libr2u2.a", "lib/libr2u2_heap.a", "lib/r2u2/libr2u2.so", "include/r2u2.h", "include/r2u2_checked.h"):
+        for path in ("lib/libr2u2.a", "lib/libr2u2_heap.a", "lib/libr2u2_arena.a", "lib/r2u2/libr2u2.so", "include/r2u2.h", "include/r2u2_checked.h"):
             self.assertIn(path, found)
         for path in (ROOT / "docs/man").iterdir():
             self.assertIn(f"share/man/man{path.suffix[1:]}/{path.name}", found)

@@ -28,6 +28,7 @@ TOOLS = {
     "watch": ("watch.command", "What holds right now, and who is told when it doesn't?"),
     "probe": ("probe.command", "Would my logs notice if a requirement were wrong?"),
     "compare": ("compare.command", "Where do two versions of a specification differ?"),
+    "generate": ("generate.command", "How does a monitor become C source, for any processor?"),
     "budget": ("budget.command", "What does a specification cost in memory, time and delay?"),
 }
 

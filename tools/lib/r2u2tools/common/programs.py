@@ -26,7 +26,7 @@ def program(name: str) -> str:
     else the unproved one of build/unproved/, which it notes once on the error output."""
     asked = os.environ.get(name.upper())
     unproved = str(BUILT / "unproved" / f"{name}.run")
-    places = [asked] if asked else [str(OWN / name), shutil.which(name), unproved]
+    places = [asked] if asked else [str(OWN / name), shutil.which(name) or "", unproved]
     path = next((place for place in places if place and os.access(place, os.X_OK)), None)
     if not path:
         where = asked or f"{name} in {OWN if INSTALLED else 'build/ or build/unproved/'} or on the path"

@@ -1,4 +1,4 @@
-"""Two files that are written both or neither."""
+"""Files that are written all or none."""
 
 from __future__ import annotations
 
@@ -20,19 +20,18 @@ def staged(path: Path, text: str) -> str:
     return name
 
 
-def write_both(base: Path, header: str, source: str) -> None:
-    """Writes a header and a source: into new files first, which then take the place of older ones."""
-    base = base.with_name(base.name.removesuffix(".c").removesuffix(".h"))
+def write_pairs(folder: Path, pairs: list[tuple[str, str, str]]) -> None:
+    """Writes a header and a source for each name: into new files first, which then take the place of older ones."""
     made = dict[str, Path]()
+    texts = [(folder / (name + ending), text) for name, *both in pairs for ending, text in zip((".h", ".c"), both)]
     try:
-        for ending, text in ((".h", header), (".c", source)):
-            path = base.with_name(base.name + ending)
+        for path, text in texts:
             made[staged(path, text)] = path
-        for name, path in made.items():
-            os.replace(name, path)
+        for file, path in made.items():
+            os.replace(file, path)
     except OSError as fault:
-        raise told_os(base, "write", fault) from None
+        raise told_os(path, "write", fault) from None
     finally:
-        for name in made:
-            if os.path.exists(name):
-                os.unlink(name)
+        for file in made:
+            if os.path.exists(file):
+                os.unlink(file)

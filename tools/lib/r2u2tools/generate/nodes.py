@@ -65,8 +65,8 @@ class Nodes:
         for k, it in enumerate(program.ft):
             self.refs.append(self.ref_of(k, it))
         self.outputs = [it for it in program.outputs if not it.is_past]
-        for it in self.outputs:
-            self.ask_of_output(it)
+        for output in self.outputs:
+            self.ask_of_output(output)
         for node in reversed(list(self.all.values())):
             self.ask_of(node)
         for node in self.all.values():
