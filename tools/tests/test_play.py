@@ -64,11 +64,24 @@ class Server(Served):
         self.assertEqual((found["accepted"], found["faults"], found["message"]), (True, [], ""))
         word = found["words"].index
         self.assertEqual(found["lanes"], [{"name": "granted", "runs": [[1, word("T")], [2, word("F")], [5, word("T")]]}])
-        self.assertEqual(found["signals"], [{"name": "request", "kind": "bool"}, {"name": "grant", "kind": "bool"}])
+        self.assertEqual([(it["name"], it["kind"]) for it in found["signals"]], [("request", "bool"), ("grant", "bool")])
         self.assertTrue(self.call("why", spec=GRANT, trace=TRACE, name="granted", time=2)["text"].startswith(WHY))
         costs = self.call("cost", spec=GRANT)
         self.assertEqual((costs["outputs"][0]["name"], costs["outputs"][0]["delay"]), ("granted", 3))
         self.assertEqual(self.call("format", spec="INPUT p:bool;")["spec"], "INPUT p: bool;\n")
+
+    def test_signals_have_the_values_that_r2u2_reads(self):
+        spec = "INPUT x, z: int;\nFTSPEC f: x > z;\n"
+        found = self.call("run", spec=spec, trace='#"speed, m/s",x,z\n1, 50,3\n\n1,2,3\r\n')
+        self.assertEqual([it["runs"] for it in found["signals"]], [[[0, "50"], [1, "2"]], [[1, "3"]]])
+        self.assertEqual((found["times"], found["message"]), (2, ""))
+        found = self.call("run", spec=spec, trace="# x,z\n@0,7,8\n@5,9,8\n", timed=True)
+        self.assertEqual((found["signals"][0]["runs"], found["times"]), ([[4, "7"], [5, "9"]], 6))
+        found = self.call("run", spec=spec, trace="1,2\n3,true\n5,6\n")
+        self.assertEqual([it["runs"] for it in found["signals"]], [[[0, "1"]], [[0, "2"]]])
+        self.assertTrue(found["message"].startswith("trace line 2:"))
+        found = self.call("run", spec=spec, trace="# x\n1\n")
+        self.assertEqual(([it["runs"] for it in found["signals"]], found["times"]), ([[], []], 0))
 
     def test_faults(self):
         found = self.call("run", spec=GRANT.replace("grant;", "grnt;"), trace=TRACE)

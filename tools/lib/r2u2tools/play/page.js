@@ -4,8 +4,8 @@ const by = (id) => document.getElementById(id);
 const SIGNS = { T: "T", F: "F", verified: "\u2713", invalid: "\u2717", inactive: "\u2013" };
 const COLUMNS = 120, WAIT = 250, LONGEST_LINK = 65536, LONGEST_FILE = 2 << 20, MOST_ROWS = 5000;
 const PREFIX = "#p.";
-// What the page shows: the last result, the rows of the trace, the first row on show and the verdict that was clicked.
-let result = null, rows = [], first = 0, picked = null, turn = 0, costed = null, timer = 0;
+// What the page shows: the last result, the first row on show and the verdict that was clicked.
+let result = null, first = 0, picked = null, turn = 0, costed = null, timer = 0;
 
 function make(tag, text, more) {
   const it = document.createElement(tag);
@@ -69,7 +69,6 @@ async function run() {
   clearTimeout(timer);
   const mine = ++turn, it = state();
   keep();
-  rows = rowsOf(it.trace, it.timed);
   const found = await call("run", it);
   if (mine !== turn) return;
   by("said").textContent = found.trouble || "";
@@ -115,39 +114,18 @@ function scrolled() {
   by("marks").scrollLeft = by("spec").scrollLeft;
 }
 
-// The rows of a trace with their times: a row holds until that of the next one.
-function rowsOf(text, timed) {
-  const lines = text.split("\n").map((line) => line.replace(/\r$/, "")).filter((line) => line.trim());
-  const names = lines.length && lines[0].startsWith("#") ? lines.shift().slice(1).split(",").map((it) => it.trim().replace(/^"|"$/g, "")) : null;
-  const all = lines.map((line, k) => {
-    const fields = line.split(",").map((it) => it.trim());
-    const time = timed && fields[0].startsWith("@") ? Number(fields.shift().slice(1)) : k;
-    return { time, fields };
-  });
-  return Object.assign(all, { names });
-}
-
-// The place of the last one of a rising list that isn't above a number, by its key.
-function placeOf(list, key, wanted) {
-  let low = 0, high = list.length;
+// The value at a time: the first of the runs that ends there or later has it.
+function valueAt(runs, time) {
+  let low = 0, high = runs.length;
   while (low < high) {
     const middle = (low + high) >> 1;
-    if (key(list[middle]) <= wanted) low = middle + 1; else high = middle;
+    if (runs[middle][0] < time) low = middle + 1; else high = middle;
   }
-  return low - 1;
+  return low < runs.length ? runs[low][1] : undefined;
 }
 
-function fieldAt(column, time) {
-  const k = placeOf(rows, (row) => row.time, time);
-  return k >= 0 && column >= 0 ? rows[k].fields[column] : undefined;
-}
-
-function wordAt(lane, time) {
-  const k = placeOf(lane.runs, (run) => run[0], time - 1) + 1;
-  return k < lane.runs.length ? result.words[lane.runs[k][1]] : null;
-}
-
-const times = () => (rows.length ? rows[rows.length - 1].time + 1 : 0);
+const wordAt = (lane, time) => result.words[valueAt(lane.runs, time)];
+const times = () => (result ? result.times : 0);
 
 function draw(fresh) {
   const box = by("lanes");
@@ -160,7 +138,7 @@ function draw(fresh) {
   for (let time = first; time < last; time++) head.append(make("td", last - first <= 40 || time % 5 === 0 ? String(time) : ""));
   table.append(make("thead"), make("tbody"));
   table.tHead.append(head);
-  result.signals.forEach((signal, k) => table.tBodies[0].append(signalLane(signal, rows.names ? rows.names.indexOf(signal.name) : k, last)));
+  for (const signal of result.signals) table.tBodies[0].append(signalLane(signal, last));
   for (const lane of result.lanes) table.tBodies[0].append(verdictLane(lane, last));
   box.append(table);
   by("window").textContent = times() ? `${first} to ${last - 1} of ${times()}` : "no rows";
@@ -168,12 +146,12 @@ function draw(fresh) {
   by("on").disabled = last >= times();
 }
 
-function signalLane(signal, column, last) {
+function signalLane(signal, last) {
   const line = make("tr");
   line.append(make("th", signal.name, { scope: "row" }));
   let before;
   for (let time = first; time < last; time++) {
-    const field = fieldAt(column, time);
+    const field = valueAt(signal.runs, time);
     const isTruth = signal.kind === "bool";
     const cell = make("td", isTruth ? (field === "1" ? "1" : "") : field === before && time > first ? "" : field, { title: `${signal.name} at ${time}: ${field}` });
     cell.className = isTruth ? "bool" + field : "value";

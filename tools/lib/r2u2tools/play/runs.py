@@ -1,6 +1,7 @@
 """Runs of the programs and of the other tools for a page: each within bounds of time, of memory and of what it prints."""
 
 import json
+import re
 import subprocess
 import tempfile
 import threading
@@ -11,7 +12,8 @@ from typing import Any, Dict, List, Optional
 from r2u2tools.common.cli import Trouble
 from r2u2tools.common import programs
 from r2u2tools.common.programs import program
-from r2u2tools.common.specs import MAGIC, read_spec
+from r2u2tools.common.specs import MAGIC, Spec, read_spec
+from r2u2tools.common.traces import Runs, Trace, read_trace
 from r2u2tools.common.verdict_lines import LONGEST, WORDS
 
 # The seconds of the processor and of the clock, and the memory, of one run.
@@ -85,14 +87,29 @@ def verdicts(files: Files) -> Dict[str, Any]:
         name, _, rest = line[:LONGEST].decode("ascii").rpartition(":")
         time, _, word = rest.partition(",")
         joined(lanes.setdefault(name, []), int(time), WORDS.index(word))
+    trace = taken_rows(files, spec, ran.error)
+    columns = trace.columns or [Runs() for _ in spec.signals]
     return {
         "words": WORDS,
         "lanes": [{"name": name, "runs": runs} for name, runs in lanes.items()],
-        "signals": [{"name": it.name, "kind": it.kind} for it in spec.signals],
+        "signals": [{"name": it.name, "kind": it.kind, "runs": list(zip(runs.lasts, runs.values))} for it, runs in zip(spec.signals, columns)],
+        "times": trace.times,
         "constants": constants(spec),
         "message": ran.error.removeprefix("r2u2: ") if ran.status else "",
         "cut": len(ran.out) >= MOST_OUTPUT,
     }
+
+
+def taken_rows(files: Files, spec: Spec, message: str) -> Trace:
+    """The rows that r2u2 took: all, or the ones before the line that it refuses."""
+    refused = re.match(r"r2u2: trace line (\d+):", message)
+    if refused:
+        lines = files.trace.read_bytes().splitlines(True)
+        files.trace.write_bytes(b"".join(lines[: int(refused[1]) - 1]))
+    try:
+        return read_trace(files.trace, spec.signals)
+    except Trouble:
+        return Trace()
 
 
 def joined(runs: List[Any], last: int, word: int) -> None:
