@@ -1,4 +1,4 @@
--- What items declare together: each item sees what those before it declare.
+-- The declarations of items. Each item sees the declarations of the items before it.
 
 use Rattle.std.specs.Prelude.{ℕ, List, [], ◌∷◌, ◌++◌, length, map, fold, sum, Some}
 use Rattle.std.specs.List.{flat_map}
@@ -20,16 +20,16 @@ use Rattle.c2po_types.specs.Outputs.{place_by}
 use Rattle.c2po_types.specs.Weights.{weight}
 use Rattle.c2po_types.specs.Environment.{Env, value_of}
 
--- what the members of a list bring in their order, each by those before it
+-- the results for the members of a list in order, where f sees the members before each, the last one first
 abbrev pub after_others : {X Y : Type 0} → (List X → X → List Y) → List X → List Y
 after_others f [] = []
 after_others f (x ∷ xs) = f [] x ++ after_others (λ before. f (x ∷ before)) xs
 
--- the kind that is found: what has none is at fault, and counts as an integer for what comes after
+-- the kind that is found; an expression or a type with a fault counts as an integer for the items after it
 abbrev pub kind_or_int : Checked Kind → Kind
 kind_or_int found = result_unwrap_or found whole
 
--- the names that an item declares where others are declared: of structs, signals and defined values
+-- the names of structs, signals and defined values that an item declares after other declarations
 abbrev pub names_in : BodyShape → Declarations → Table Meaning
 names_in (structure x fs) d = (x, Struct (length d.structs)) ∷ []
 names_in (input xs t) d = map (λ x. (x, Value (signal_kind (is_bool t)))) xs
@@ -41,7 +41,7 @@ abbrev pub structs_in : ℕ → BodyShape → Declarations → List (Table Kind)
 structs_in line (structure x fs) d = map (λ f. (f.name, kind_or_int (type_kind line d f.kind))) fs ∷ []
 structs_in line _ d = []
 
--- what is declared with one more item
+-- the declarations with the declarations of one more item
 abbrev pub with_item : Declarations → ItemShape → Declarations
 with_item d i = record {
   names = d.names ++ names_in i.body d;
@@ -49,7 +49,7 @@ with_item d i = record {
   signals = d.signals ++ body_signals i.body;
 }
 
--- what items declare
+-- the declarations of items
 abbrev pub declarations_of : List ItemShape → Declarations
 declarations_of items = fold with_item nothing items
 
@@ -57,13 +57,13 @@ declarations_of items = fold with_item nothing items
 abbrev pub values_by : List ItemShape → Env
 values_by items = (place_by items).values
 
--- the label of an output, where it has one
+-- the label of an output, if it has one
 abbrev pub body_label : BodyShape → List (List ℕ)
 body_label (formula engine (Some x) e) = x ∷ []
 body_label (contract engine (Some x) e f) = x ∷ []
 body_label _ = []
 
--- the labels of outputs, which are names apart from all others
+-- the labels of outputs, which have a name space of their own
 abbrev pub labels_in : List ItemShape → List (List ℕ)
 labels_in items = flat_map (λ i. body_label i.body) items
 
@@ -73,7 +73,7 @@ output_trees (formula engine label e) = e ∷ []
 output_trees (contract engine label e f) = e ∷ f ∷ []
 output_trees _ = []
 
--- the weights of what expressions unfold to
+-- the weights of the values that expressions unfold to
 abbrev pub weights_of : List Shape → Env → List ℕ
 weights_of es env = map (λ e. weight (value_of e env)) es
 

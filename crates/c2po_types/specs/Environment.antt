@@ -24,37 +24,37 @@ Env = List ℕ → Known
 abbrev pub no_names : Env
 no_names x = nothing
 
--- the name of a variable has a value
+-- the environment in which a variable has a value
 abbrev pub bind : List ℕ → Value → Env → Env
 bind x v env y = if bytes_eq y x then value v else env y
 
--- the meaning of a name that has one already, else something else
+-- the first meaning if the name is known, else the second
 abbrev pub or_else : Known → Known → Known
 or_else nothing k = k
 or_else (fields xs) k = fields xs
 or_else (value v) k = value v
 
--- a name is declared: a known name keeps its meaning
+-- the environment with one more declared name; a known name keeps its meaning
 abbrev pub declare : List ℕ → Known → Env → Env
 declare x k env y = or_else (env y) (if bytes_eq y x then k else nothing)
 
--- the value of the signal with a number, of kind bool or int
+-- the value of the signal with this number, Boolean or integer
 abbrev pub signal_value : Bool → ℕ → Value
 signal_value b n = leaf (signal b n)
 
--- the value of a name: any value where it has none
+-- the value of a name; `false` if it has none
 abbrev pub value_in : Known → Value
 value_in (value v) = v
 value_in (fields xs) = truth_value false
 value_in nothing = truth_value false
 
--- the fields of the struct of a name: other names have none
+-- the fields of the struct with this name; other names have none
 abbrev pub fields_in : Known → List (List ℕ)
 fields_in (fields xs) = xs
 fields_in (value v) = []
 fields_in nothing = []
 
--- the value of an expression: a name has its value, a quantifier joins its bodies, one for each member of its set
+-- the value that an expression unfolds to; a quantifier joins or counts its bodies, one for each member of its set
 abbrev mutual
   pub value_of : Shape → Env → Value
   value_of (tree.number line n) env = number_value n

@@ -32,30 +32,30 @@ line_of (each line x s e) = line
 line_of (exists line x s e) = line
 line_of (count line op x s n e) = line
 
--- two kinds, the left one first
+-- two kinds, or the first fault, the left one first
 abbrev pub two : Checked Kind → Checked Kind → Checked (Kind × Kind)
 two left right = do
   j ← left
   k ← right
   Ok (j, k)
 
--- a kind that is as wanted gives a kind
+-- the given kind if the operand has the wanted kind, else a fault
 abbrev pub of_one : ℕ → Kind → Kind → Kind → Checked Kind
 of_one line wanted given k = expected line (same_kind k wanted) given
 
--- two kinds that are as wanted give a kind
+-- the given kind if both operands have the wanted kind, else a fault
 abbrev pub of_two : ℕ → Kind → Kind → Kind × Kind → Checked Kind
 of_two line wanted given ks = expected line (same_kind ks.0 wanted && same_kind ks.1 wanted) given
 
--- an interval with a lower bound that isn't above the upper one, and an upper bound within the limit
+-- the rest of a check if the lower bound isn't above the upper one and the upper one is within the limit, else a fault
 abbrev pub within_bounds : {X : Type 0} → ℕ → ℕ → ℕ → Checked X → Checked X
 within_bounds line a b rest = if nat_le a b && nat_le b MAX_BOUND then rest else Err (fault.Bounds line)
 
--- a variable whose name nothing visible has
+-- the rest of a check if the variable's name isn't visible yet, else a fault
 abbrev pub unseen : {X : Type 0} → ℕ → Option X → Checked Kind → Checked Kind
 unseen line found rest = if is_some found then Err (fault.Twice line) else rest
 
--- the number of a counting quantifier within the limit
+-- the rest of a check if the number of a counting quantifier is within the limit, else a fault
 abbrev pub few : ℕ → ℕ → Checked Kind → Checked Kind
 few line n rest = if nat_le n MAX_COUNT then rest else Err (fault.Bounds line)
 
@@ -95,17 +95,17 @@ abbrev mutual
     ps ← operand_kinds es seen
     Ok ((line_of e, k) ∷ ps)
 
--- an operator that wants operands of one kind and gives another, from the kind of its left operand and its right one
+-- the kind of an operator whose operands must have the wanted kind, from the kind of its left operand and its right operand
 abbrev pub infix_kind : ℕ → Kind → Kind → Kind → Shape → Visible → Checked Kind
 infix_kind line wanted given left e seen = two (Ok left) (kind_of e seen) >>= of_two line wanted given
 
--- a temporal operator over an interval, from its one operand
+-- the kind of a temporal operator over one operand
 abbrev pub window_kind : ℕ → ℕ → ℕ → Shape → Visible → Checked Kind
 window_kind line a b e seen = do
   k ← kind_of e seen
   within_bounds line a b (of_one line kinds.truth kinds.truth k)
 
--- a quantifier over a set of a kind
+-- the kind of a quantifier over a set of this kind
 abbrev pub quantifier_kind : ℕ → List ℕ → Kind → ℕ → Shape → Visible → Checked Kind
 quantifier_kind line x s n e seen = do
   k ← member_kind line s

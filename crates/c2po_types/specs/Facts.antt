@@ -26,59 +26,59 @@ abbrev pub tree_fact : Tree → TreeFact
 tree_fact (number a) = whole (range a)
 tree_fact (formula p) = truth (formula_fault p) (has_past p) (has_future p)
 
--- the range of a result
+-- the range that the code's result stands for
 abbrev pub told_range : Result Range answer.NoRange → Ranged
 told_range (Ok r) = Ok r
 told_range (Err why) = Err (reason why)
 
--- the fault of a result
+-- the fault that the code's result stands for
 abbrev pub told_fault : Option answer.NoRange → Option NoRange
 told_fault fault = option_map reason fault
 
--- operators of the past are among these
+-- these tenses include the past
 abbrev pub with_past : Tenses → Bool
 with_past tenses.TheVariants.None = false
 with_past tenses.TheVariants.Past = true
 with_past tenses.TheVariants.Future = false
 with_past tenses.TheVariants.Both = true
 
--- operators of the future are among these
+-- these tenses include the future
 abbrev pub with_future : Tenses → Bool
 with_future tenses.TheVariants.None = false
 with_future tenses.TheVariants.Past = false
 with_future tenses.TheVariants.Future = true
 with_future tenses.TheVariants.Both = true
 
--- what a fact says of a value, if it is an integer or a formula
+-- the fact of a tree that a fact of the code stands for, if it is the fact of an integer or a formula
 abbrev pub fact_view : Fact → Option TreeFact
 fact_view (Number r) = Some (whole (Ok r))
 fact_view (NoNumber why) = Some (whole (Err (reason why)))
 fact_view (Formula fault t) = Some (truth (told_fault fault) (with_past t) (with_future t))
 fact_view Parts = None
 
--- a fact is the fact of a tree, if there is one
+-- the fact is the fact of the tree, or of parts if there is no tree
 abbrev pub Tells : Fact → Option Tree → Type 0
 Tells fact o = fact_view fact ≡ option_map tree_fact o
 
--- the range of an operand; a formula has the range of 0
+-- the range of an operand; an operand that isn't an integer has the range of 0
 abbrev pub range_in : Option TreeFact → Ranged
 range_in (Some (whole r)) = r
 range_in (Some (truth fault past future)) = Ok (range_from (pos 0) (pos 0))
 range_in None = Ok (range_from (pos 0) (pos 0))
 
--- the fault of an operand; an integer, which isn't expected here, has none
+-- the fault of an operand that is a formula; another operand has none
 abbrev pub fault_in : Option TreeFact → Option NoRange
 fault_in (Some (truth fault past future)) = fault
 fault_in (Some (whole r)) = None
 fault_in None = None
 
--- an operator of the past is in the operand
+-- the operand is a formula with an operator of the past
 abbrev pub past_in : Option TreeFact → Bool
 past_in (Some (truth fault past future)) = past
 past_in (Some (whole r)) = false
 past_in None = false
 
--- an operator of the future is in the operand
+-- the operand is a formula with an operator of the future
 abbrev pub future_in : Option TreeFact → Bool
 future_in (Some (truth fault past future)) = future
 future_in (Some (whole r)) = false

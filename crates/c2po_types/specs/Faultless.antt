@@ -7,7 +7,7 @@ use Rattle.mltl_base.specs.declared.signal.Signal.{Signal}
 use Rattle.c2po_types.specs.FirstFault.{first_fault}
 use Rattle.c2po_types.specs.Signals.{signals_of}
 
--- a specification has no fault, its names are made of letters, digits and `_`, and these are its signals
+-- the specification has no fault, its names consist of letters, digits and `_`, and its signals are these
 pub record IsFaultless (items : List ItemShape) (signals : List Signal) : Type 0 where
   pub faultless : first_fault items ≡ None
   pub plain : ArePlainItems items

@@ -1,4 +1,4 @@
--- The first integer of a value that has no range: parts from left to right.
+-- The first fault of a value's integers. Parts are taken from left to right.
 
 use Rattle.std.specs.Prelude.{Option, None}
 use Rattle.mltl_base.specs.Ranges.{NoRange}

@@ -4,6 +4,6 @@ use Rattle.std.specs.Prelude.{ℕ, ◌≡◌, List, position}
 use Rattle.std.specs.Str.{bytes_eq}
 use Rattle.mltl_base.specs.Tables.{Table, entry_of}
 
--- a table has the place of each name among names, the first one where there are two
+-- the table has the place of each name in the list; a name that occurs twice has its first place
 pub record ArePlaces (table : Table ℕ) (names : List (List ℕ)) : Type 0 where
   pub found : (x : List ℕ) → entry_of x table ≡ position (bytes_eq x) names

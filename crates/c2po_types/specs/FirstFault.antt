@@ -1,6 +1,6 @@
--- The first fault of a specification. Items are taken in the order of the text, each where those before it are
--- declared. In an item the faults below are looked for in the order of their list, in an expression operands first and
--- from the left.
+-- The first fault of a specification. Items are taken in the order of the text, and each sees the declarations of the items
+-- before it. The faults of an item are looked for in the order of its list below, in an expression operands first and from
+-- the left.
 
 use Rattle.std.specs.Prelude.{ℕ, ◌+◌, nat_le, Bool, ◌||◌, List, [], ◌∷◌, ◌++◌, length, map, sum, Option, Some, None}
 use Rattle.std.specs.Prelude.{if◌then◌else◌}
@@ -32,64 +32,64 @@ use Rattle.c2po_types.specs.Expressions.{kind_of, of_one}
 use Rattle.c2po_types.specs.Items.{type_kind, signal_truth}
 use Rattle.c2po_types.specs.Declares.{after_others, declarations_of, values_by, labels_in, weights_of, total_weight}
 
--- the first of the faults that are there
+-- the first fault of a list, if there is any
 abbrev pub earliest : List (Option TypeFault) → Option TypeFault
 earliest [] = None
 earliest (o ∷ os) = option_or o (earliest os)
 
--- a fault where a test holds
+-- the fault, if a test holds
 abbrev pub fault_if : Bool → TypeFault → Option TypeFault
 fault_if b fault = if b then Some fault else None
 
--- a fault where a test fails
+-- the fault, if a test fails
 abbrev pub fault_unless : Bool → TypeFault → Option TypeFault
 fault_unless b fault = if b then None else Some fault
 
--- whether a name is among names
+-- the name is among these names
 abbrev pub is_among : List ℕ → List (List ℕ) → Bool
 is_among x xs = list_any (bytes_eq x) xs
 
--- the fault of a line with an integer that has no range
+-- the fault of an item on this line that has an integer without a range
 abbrev pub range_fault : ℕ → NoRange → TypeFault
 range_fault line divisor = fault.Divisor line
 range_fault line wide = fault.Range line
 
--- whether the tense that isn't an engine's occurs: the past for future time, the future for past time
+-- the tense that the engine doesn't have occurs: the past for future time, the future for past time
 abbrev pub other_tense : Engine → Bool → Bool → Bool
 other_tense Ft past future = past
 other_tense Pt past future = future
 
--- whether a formula has an operator of the other tense than its engine's
+-- the formula has an operator of the tense that the engine doesn't have
 abbrev pub is_mixed : Engine → Formula → Bool
 is_mixed engine p = other_tense engine (has_past p) (has_future p)
 
--- a field after others: its name twice, a type that isn't known
+-- the faults of a field after others: its name is declared twice, or its type isn't known
 abbrev pub field_faults : ℕ → Declarations → List FieldShape → FieldShape → List (Option TypeFault)
 field_faults line d before f =
     fault_if (is_among f.name (map (λ g. g.name) before)) (fault.Twice line)
     ∷ fault_of (type_kind line d f.kind)
     ∷ []
 
--- a struct: its name twice, then its fields
+-- the faults of a struct: its name is declared twice, then the faults of its fields
 abbrev pub struct_faults : ℕ → List ℕ → List FieldShape → Declarations → List (Option TypeFault)
 struct_faults line x fs d =
     fault_if (is_named x d.names) (fault.Twice line)
     ∷ after_others (field_faults line d) fs
 
--- a signal after others: its name twice, one signal too many
+-- the faults of a signal after others: its name is declared twice, or there are too many signals
 abbrev pub signal_faults : ℕ → Declarations → List (List ℕ) → List ℕ → List (Option TypeFault)
 signal_faults line d before x =
     fault_if (is_named x d.names || is_among x before) (fault.Twice line)
     ∷ fault_if (nat_le MAX_SIGNALS (length d.signals + length before)) (fault.Signals line)
     ∷ []
 
--- signals: a type that isn't known, or neither `bool` nor `int`; then each signal
+-- the faults of signals: their type isn't known, or is neither `bool` nor `int`; then the faults of each signal
 abbrev pub input_faults : ℕ → List (List ℕ) → TypeShape → Declarations → List (Option TypeFault)
 input_faults line xs t d =
     fault_of (type_kind line d t >>= signal_truth line)
     ∷ after_others (signal_faults line d) xs
 
--- a definition: its expression, its name twice, its weight, its integers
+-- the faults of a definition: of its expression, of a name that is declared twice, of its weight, of its integers
 abbrev pub define_faults : ℕ → List ℕ → Shape → List ItemShape → List (Option TypeFault)
 define_faults line x e before =
     fault_of (kind_of e (outside (declarations_of before)))
@@ -98,13 +98,13 @@ define_faults line x e before =
     ∷ option_map (range_fault line) (value_fault (value_of e (values_by before)))
     ∷ []
 
--- an output's label twice
+-- the fault of an output whose label is declared twice
 abbrev pub label_fault : ℕ → Option (List ℕ) → List ItemShape → Option TypeFault
 label_fault line None before = None
 label_fault line (Some x) before = fault_if (is_among x (labels_in before)) (fault.Twice line)
 
--- an output: its label; its expressions; one that is no formula; the weight of all outputs so far; its integers; its
--- tense
+-- the faults of an output: of its label; of its expressions; of an expression that isn't a formula; of the weight of all
+-- outputs so far; of its integers; of its tense
 abbrev pub output_faults : ℕ → Engine → Option (List ℕ) → List Shape → List ItemShape → List (Option TypeFault)
 output_faults line engine label es before =
     let seen = outside (declarations_of before) in
@@ -116,7 +116,7 @@ output_faults line engine label es before =
     ∷ map (λ e. option_map (range_fault line) (formula_fault (formula_of (value_of e env)))) es
     ++ map (λ e. fault_if (is_mixed engine (formula_of (value_of e env))) (fault.Tense line)) es
 
--- an item of any sort, on a line
+-- the faults of an item by its body, on this line
 abbrev pub body_faults : ℕ → BodyShape → List ItemShape → List (Option TypeFault)
 body_faults line (structure x fs) before = struct_faults line x fs (declarations_of before)
 body_faults line (input xs t) before = input_faults line xs t (declarations_of before)
@@ -124,7 +124,7 @@ body_faults line (define x e) before = define_faults line x e before
 body_faults line (formula engine label e) before = output_faults line engine label (e ∷ []) before
 body_faults line (contract engine label e f) before = output_faults line engine label (e ∷ f ∷ []) before
 
--- an item after others
+-- the faults of an item after others
 abbrev pub item_faults : List ItemShape → ItemShape → List (Option TypeFault)
 item_faults before i = body_faults i.line i.body before
 

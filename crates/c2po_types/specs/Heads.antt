@@ -1,4 +1,4 @@
--- What names and picked fields lead to.
+-- The heads that names and picked fields lead to.
 
 use Rattle.std.specs.Prelude.{ℕ, ◌≡◌, Bool, true, false, List, [], slice_get, Some}
 use Rattle.c2po_ast.specs.Shape as tree
@@ -13,14 +13,14 @@ use Rattle.c2po_types.specs.Values.{Value, leaf, structure, set, truth_value, bu
 use Rattle.c2po_types.specs.Environment.{Env, Known, nothing, fields, value, value_of, values_of}
 use Rattle.c2po_types.specs.Holding.{Holds, HoldAll, Fits}
 
--- what was found for a name is what it means
+-- the answer of a look-up is the meaning of the name
 abbrev pub Names : Unfolding → Named → Known → Type 0
 Names u named.Nothing k = k ≡ nothing
 Names u (named.Struct i) k = (xs : List (List ℕ)) × (slice_get u.structs i ≡ Some xs) × (k ≡ fields xs)
 Names u (named.Open scope e) k = (env : Env) × Fits u scope.now env × (k ≡ value (value_of (shape e.now) env))
 Names u (named.Held s) k = (v : Value) × Holds u s v × (k ≡ value v)
 
--- a number, a Boolean, an operator or a quantifier
+-- the expression is a number, a Boolean, an operator or a quantifier
 abbrev pub is_operator : Shape → Bool
 is_operator (tree.named line x) = false
 is_operator (tree.build line x es) = false
@@ -28,13 +28,13 @@ is_operator (tree.group line es) = false
 is_operator (tree.pick line e x) = false
 is_operator _ = true
 
--- stored values are the members of a set; nothing else has any
+-- the stored values represent the members of a set; another value has none
 abbrev pub HoldMembers : Unfolding → List Stored → Value → Type 0
 HoldMembers u ss (set vs) = HoldAll u ss vs
 HoldMembers u ss (structure x vs) = ss ≡ []
 HoldMembers u ss (leaf l) = ss ≡ []
 
--- a head has a value
+-- the head represents the value
 abbrev pub Heads : Unfolding → Head → Value → Type 0
 Heads u (head.Nothing scope e) v =
     (env : Env) × Fits u scope.now env × (v ≡ truth_value false) × (v ≡ value_of (shape e.now) env)

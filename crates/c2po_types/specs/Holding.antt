@@ -1,4 +1,4 @@
--- What an unfolding holds: which values, and the environment that it represents.
+-- The values that an unfolding stores, and the environment that it represents.
 
 use Rattle.std.specs.Prelude.{ℕ, ◌≡◌, ◌+◌, Option, Some, None, List, [], ◌∷◌, slice_get}
 use Rattle.c2po_types.specs.declared.fact.Fact.{Fact}
@@ -21,7 +21,7 @@ use Rattle.c2po_types.specs.Facts.{Tells, told_fault, with_future, with_past}
 use Rattle.c2po_types.specs.Faults.{values_fault}
 use Rattle.c2po_types.specs.Environment.{Env, Known, nothing, fields, value, value_of, bind}
 
--- a stored value, over facts and parts, represents a value
+-- the stored value, over these facts and parts, represents the value
 abbrev mutual
   pub Stores : List Fact → List Parts → Stored → Value → Type 0
   Stores facts parts s (leaf l) =
@@ -41,32 +41,32 @@ abbrev mutual
   StoreAll facts parts ss (more v vs) =
       (s : Stored) × (rest : List Stored) × (ss ≡ s ∷ rest) × Stores facts parts s v × StoreAll facts parts rest vs
 
--- the same within an unfolding
+-- the stored value of an unfolding represents the value
 abbrev pub Holds : Unfolding → Stored → Value → Type 0
 Holds u s v = Stores u.facts u.parts s v
 
--- within an unfolding, stored values represent values in order
+-- the stored values of an unfolding represent the values in order
 abbrev pub HoldAll : Unfolding → List Stored → Values → Type 0
 HoldAll u ss vs = StoreAll u.facts u.parts ss vs
 
--- an entry of the table of names represents the meaning of the name
+-- the entry of a name, if any, represents the name's meaning
 abbrev pub Means : Unfolding → Option Entry → Known → Type 0
 Means u None k = k ≡ nothing
 Means u (Some (entry.Struct i)) k = (xs : List (List ℕ)) × (slice_get u.structs i ≡ Some xs) × (k ≡ fields xs)
 Means u (Some (entry.Value s)) k = (v : Value) × Holds u s v × (k ≡ value v)
 
--- an unfolding represents an environment: the meanings of its names
+-- the unfolding represents the environment: each name has the meaning of its entry
 pub record StandsFor (u : Unfolding) (env : Env) : Type 0 where
   pub means : (x : List ℕ) → Means u (entry_of x u.names) (env x)
 
--- the weight, the fault and the tenses of a value's formula
+-- the answer has the weight of the value, and the fault and the tenses of its formula
 pub record Weighs (found : Weighed) (v : Value) : Type 0 where
   pub weight : found.weight ≡ weight_of v
   pub fault : told_fault found.fault ≡ formula_fault (formula_of v)
   pub past : with_past found.tenses ≡ has_past (formula_of v)
   pub future : with_future found.tenses ≡ has_future (formula_of v)
 
--- variables within an unfolding represent an environment
+-- the variables of a scope represent the environment, in an unfolding
 abbrev pub Fits : Unfolding → Scope → Env → Type 0
 Fits u Top env = StandsFor u env
 Fits u (Open' x e _ within _ outer) env =
@@ -75,13 +75,13 @@ Fits u (Open' x e _ within _ outer) env =
 Fits u (Held' x s _ outer) env =
     (v : Value) × (around : Env) × Holds u s v × Fits u outer around × (env ≡ bind x.now v around)
 
--- what an unfolding has stays at its place
+-- each struct, fact and part of the old unfolding stays at its place
 pub record Keeps (old new : Unfolding) : Type 0 where
   pub structs : (i : ℕ) (xs : List (List ℕ)) → slice_get old.structs i ≡ Some xs → slice_get new.structs i ≡ Some xs
   pub facts : (i : ℕ) (f : Fact) → slice_get old.facts i ≡ Some f → slice_get new.facts i ≡ Some f
   pub parts : (i : ℕ) (p : Parts) → slice_get old.parts i ≡ Some p → slice_get new.parts i ≡ Some p
 
--- a later state of an unfolding with the same names
+-- the new unfolding is a later state of the old one, with the same names
 pub record IsLater (old new : Unfolding) : Type 0 where
   pub names : new.names ≡ old.names
   pub keeps : Keeps old new

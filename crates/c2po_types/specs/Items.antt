@@ -1,4 +1,4 @@
--- What items declare, and their faults of names and kinds. Faults of items are at the item's line.
+-- The declarations of items, and their faults of names and kinds, which stand at the item's line.
 
 use Rattle.std.specs.Prelude.{ℕ, nat_le, Bool, true, false, List, [], ◌∷◌, ◌++◌, length, codes, Option, Some, None, Ok}
 use Rattle.std.specs.Prelude.{Err, if◌then◌else◌, ⊤}
@@ -18,15 +18,15 @@ use Rattle.c2po_types.specs.Kinds.{single_kind, whole, truth, same_kind, set_kin
 use Rattle.c2po_types.specs.Scopes.{outside}
 use Rattle.c2po_types.specs.Expressions.{kind_of, two, of_one, of_two}
 
--- nothing is declared before the first item
+-- the declarations before the first item
 abbrev pub nothing : Declarations
 nothing = record { names = []; structs = []; signals = [] }
 
--- a name that isn't there
+-- the rest of a check if the name is new, else a fault
 abbrev pub new : {X V : Type 0} → ℕ → List ℕ → Table V → Checked X → Checked X
 new line x names rest = if is_named x names then Err (fault.Twice line) else rest
 
--- the kind of a struct that was declared
+-- the kind of a declared struct
 abbrev pub struct_kind : ℕ → Option Meaning → Checked Kind
 struct_kind line (Some (Struct n)) = Ok (single_kind (base.Struct n))
 struct_kind line _ = Err (fault.Unknown line)
@@ -38,11 +38,11 @@ type_kind line d (type_named x) = if bytes_eq x (codes "int") then Ok whole
     else struct_kind line (entry_of x d.names)
 type_kind line d (set_of t) = type_kind line d t >>= λ k. Ok (set_kind k)
 
--- one more field after those before
+-- the fields with one more field
 abbrev pub with_field : ℕ → Declarations → FieldShape → Table Kind → Checked (Table Kind)
 with_field line d f fields = new line f.name fields (type_kind line d f.kind >>= λ k. Ok (fields ++ (f.name, k) ∷ []))
 
--- one more struct
+-- the declarations with one more struct
 abbrev pub with_struct : ℕ → List ℕ → List FieldShape → Declarations → Checked Declarations
 with_struct line x fs d = new line x d.names (in_turn (with_field line d) fs [] >>= λ fields. Ok (record {
   names = d.names ++ (x, Struct (length d.structs)) ∷ [];
@@ -50,7 +50,7 @@ with_struct line x fs d = new line x d.names (in_turn (with_field line d) fs [] 
   signals = d.signals;
 }))
 
--- whether a signal of a kind is Boolean; a signal is a Boolean or an integer
+-- a signal of this kind is Boolean (true) or an integer (false); there is no signal of another kind
 abbrev pub signal_truth : ℕ → Kind → Checked Bool
 signal_truth line k = if same_kind k truth then Ok true
     else if same_kind k whole then Ok false
@@ -61,7 +61,7 @@ abbrev pub signal_kind : Bool → Kind
 signal_kind true = truth
 signal_kind false = whole
 
--- one more signal
+-- the declarations with one more signal
 abbrev pub with_signal : ℕ → Bool → List ℕ → Declarations → Checked Declarations
 with_signal line b x d =
     new line x d.names (if nat_le MAX_SIGNALS (length d.signals) then Err (fault.Signals line) else Ok (record {
@@ -70,7 +70,7 @@ with_signal line b x d =
       signals = d.signals ++ record { name = x; truth = b } ∷ [];
     }))
 
--- the signals of an item
+-- the declarations with the signals of an item
 abbrev pub with_input : ℕ → List (List ℕ) → TypeShape → Declarations → Checked Declarations
 with_input line xs t d = type_kind line d t >>= signal_truth line >>= λ b. in_turn (with_signal line b) xs d
 
@@ -78,23 +78,23 @@ with_input line xs t d = type_kind line d t >>= signal_truth line >>= λ b. in_t
 abbrev pub define_kind : ℕ → List ℕ → Shape → Declarations → Checked Kind
 define_kind line x e d = kind_of e (outside d) >>= λ k. new line x d.names (Ok k)
 
--- one more defined value
+-- the declarations with one more defined value
 abbrev pub with_value : List ℕ → Kind → Declarations → Declarations
 with_value x k d = record { names = d.names ++ (x, Value k) ∷ []; structs = d.structs; signals = d.signals }
 
--- The names of outputs, which have a separate space.
+-- The labels of outputs, which have a name space of their own.
 abbrev pub Labels : Type 0
 Labels = Table ⊤
 
--- one more output
+-- the labels with the label of one more output, if it has one
 abbrev pub with_label : ℕ → Option (List ℕ) → Labels → Checked Labels
 with_label line None labels = Ok labels
 with_label line (Some x) labels = new line x labels (Ok (labels ++ (x, tt) ∷ []))
 
--- the formula of an output
+-- the kind of the formula of an output
 abbrev pub formula_kind : ℕ → Shape → Declarations → Checked Kind
 formula_kind line e d = kind_of e (outside d) >>= of_one line truth truth
 
--- the formulas of a contract, the faults of the left one first
+-- the kind of the formulas of a contract; the faults of the left formula come first
 abbrev pub contract_kind : ℕ → Shape → Shape → Declarations → Checked Kind
 contract_kind line e f d = two (kind_of e (outside d)) (kind_of f (outside d)) >>= of_two line truth truth

@@ -18,7 +18,7 @@ unary_value op v = leaf (one op v)
 abbrev pub binary_value : BinaryOp → Value → Value → Value
 binary_value op v w = leaf (two op v w)
 
--- the value of a quantifier's body where its variable has a value
+-- the value of a quantifier's body when its variable has this value
 abbrev pub body_value : Bodies → Env → Value → Value
 body_value q env v = value_of (shape q.body.now) (bind q.name.now v env)
 

@@ -11,22 +11,23 @@ use Rattle.c2po_types.specs.Values.{formula_of}
 use Rattle.c2po_types.specs.Environment.{Env, no_names, declare, fields, value, signal_value, value_of}
 use Rattle.c2po_types.specs.Signals.{body_signals}
 
--- What is known between two items: the values of names, and the numbers of signals and of outputs before it.
+-- The state between two items: the values of names, and the numbers of signals and outputs so far.
 pub record Place : Type 0 where
   pub values : Env
   pub signals : ℕ
   pub outputs : ℕ
 
--- before the first item
+-- the state before the first item
 abbrev pub before : Place
 before = record { values = no_names; signals = 0; outputs = 0 }
 
--- the values of signals are their numbers
+-- the environment with signals, which are numbered from n on
 abbrev pub with_signals : ℕ → List Signal → Env → Env
 with_signals n [] env = env
 with_signals n (s ∷ ss) env = with_signals (suc n) ss (declare s.name (value (signal_value s.truth n)) env)
 
--- the value of a name is that of its definition, and signals are numbered in the order of declaration
+-- the environment after an item: a name has the value of its definition, and signals are numbered in the order of
+-- declaration
 abbrev pub values_after : BodyShape → Place → Env
 values_after (item.structure x fs) p = declare x (fields (map (λ f. f.name) fs)) p.values
 values_after (item.input xs t) p = with_signals p.signals (body_signals (item.input xs t)) p.values
@@ -39,7 +40,7 @@ abbrev pub name_of : ℕ → Option (List ℕ) → List ℕ
 name_of k (Some x) = x
 name_of k None = decimal k
 
--- the outputs that an item declares at a place: one or none
+-- the outputs of an item at a place: one or none
 abbrev pub asked_at : BodyShape → Place → List Asked
 asked_at (item.structure x fs) p = []
 asked_at (item.input xs t) p = []
@@ -55,7 +56,7 @@ asked_at (item.contract engine label e f) p = record {
   output = contract (formula_of (value_of e p.values)) (formula_of (value_of f p.values));
 } ∷ []
 
--- what is known after an item
+-- the state after an item
 abbrev pub place_after : BodyShape → Place → Place
 place_after body p = record {
   values = values_after body p;
@@ -63,7 +64,7 @@ place_after body p = record {
   outputs = p.outputs + length (asked_at body p);
 }
 
--- what is known after items
+-- the state after items
 abbrev pub place_by : List ItemShape → Place
 place_by items = fold (λ p i. place_after i.body p) before items
 
@@ -76,6 +77,6 @@ asked_from (i ∷ items) p = asked_at i.body p ++ asked_from items (place_after 
 unfoldable pub outputs_of : List ItemShape → List Asked
 outputs_of items = asked_from items before
 
--- the output's name is made of letters, digits and `_`
+-- the output's name consists of letters, digits and `_`
 abbrev pub HasPlainName : Asked → Type 0
 HasPlainName asked = IsPlainName asked.name

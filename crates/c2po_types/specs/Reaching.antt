@@ -1,4 +1,4 @@
--- How far the check has come.
+-- The state that the check has reached.
 
 use Rattle.std.specs.Prelude.{◌≡◌, ℕ, Ok, Err, ⊤}
 use Rattle.c2po_types.specs.declared.unfold_fault.UnfoldFault.{UnfoldFault}
@@ -12,16 +12,16 @@ use Rattle.c2po_types.specs.Holding.{StandsFor}
 use Rattle.c2po_types.specs.declared.progress.Progress.{Progress}
 use Rattle.c2po_types.specs.Stepwise.{State}
 
--- what is known, where the unfolding represents the values of names
+-- the state of the check, if the unfolding represents this environment
 abbrev pub state_of : Progress → Env → State
 state_of p env = record { declared = p.declared; labels = p.labels; values = env; total = p.total }
 
--- the check comes as far as the definition, or to its fault
+-- the check reaches the state that the definition finds, or its fault
 abbrev pub Reaches : Checked ⊤ → Progress → Checked State → Type 0
 Reaches (Ok done) p found = (env : Env) × StandsFor p.values env × (found ≡ Ok (state_of p env))
 Reaches (Err fault) p found = Fails fault found
 
--- the same of all items
+-- the check of all items reaches the state that the definition finds, or its fault
 abbrev pub Comes : Checked Progress → Checked State → Type 0
 Comes (Ok p) found = Reaches (Ok tt) p found
 Comes (Err fault) found = Fails fault found

@@ -8,26 +8,26 @@ use Rattle.c2po_types.specs.declared.declarations.Declarations.{Declarations}
 use Rattle.c2po_types.specs.declared.scope.Scope.{Scope, Items, Within'}
 use Rattle.mltl_base.specs.Tables.{Table, entry_of}
 
--- What is visible at a place: the variables of the quantifiers around it, the innermost first, and what the items
--- before declare.
+-- The names that are visible at a place: the variables of the quantifiers around it, the innermost first, and the
+-- declarations of the items before it.
 pub record Visible : Type 0 where
   pub variables : Table Kind
   pub declared : Declarations
 
--- what is visible outside quantifiers
+-- the names that are visible outside quantifiers
 abbrev pub outside : Declarations → Visible
 outside d = record { variables = []; declared = d }
 
--- what is visible in the body of a quantifier
+-- the names that are visible in the body of a quantifier
 abbrev pub inside : List ℕ → Kind → Visible → Visible
 inside x k seen = record { variables = (x, k) ∷ seen.variables; declared = seen.declared }
 
--- what the code sees
+-- the names that are visible in a scope of the code
 abbrev pub visible : Scope → Visible
 visible (Items d) = outside d.now
 visible (Within' x k _ around) = inside x.now k (visible around)
 
--- a variable hides what is declared under its name
+-- the meaning of a name with a variable or a declaration; a variable hides the declaration
 abbrev pub variable_or : Option Kind → Option Meaning → Option Meaning
 variable_or (Some k) declared = Some (Value k)
 variable_or None declared = declared

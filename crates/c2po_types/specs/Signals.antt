@@ -6,16 +6,16 @@ use Rattle.std.specs.Str.{bytes_eq}
 use Rattle.c2po_ast.specs.ItemShape.{TypeShape, BodyShape, ItemShape, type_named, set_of, input}
 use Rattle.mltl_base.specs.declared.signal.Signal.{Signal}
 
--- whether a type is Boolean
+-- the type is `bool`
 abbrev pub is_bool : TypeShape → Bool
 is_bool (type_named x) = bytes_eq x (codes "bool")
 is_bool (set_of t) = false
 
--- the signals that one item declares: those of an INPUT item in order, else none
+-- the signals that an item declares, in order; only INPUT items declare signals
 abbrev pub body_signals : BodyShape → List Signal
 body_signals (input xs t) = map (λ x. record { name = x; truth = is_bool t }) xs
 body_signals _ = []
 
--- the names of all INPUT items in order
+-- the signals of all INPUT items in order
 abbrev pub signals_of : List ItemShape → List Signal
 signals_of items = flat_map (λ item. body_signals item.body) items

@@ -9,16 +9,16 @@ use Rattle.c2po_types.specs.declared.summary.Summary.{Summary}
 use Rattle.c2po_types.specs.Values.{Value, tree_in}
 use Rattle.c2po_types.specs.Weights.{weight as weight_of}
 
--- a summary has the value's weight, and the range of its integer, or the fault and the tenses of its formula
+-- the summary has the weight of the value, and the fact of its integer or formula
 pub record IsSummary (s : Summary) (v : Value) : Type 0 where
   pub weight : s.weight ≡ weight_of v
   pub fact : Tells s.fact (tree_in v)
 
--- one of the formulas, from the last to the first
+-- the disjunction of the formulas, from the last to the first
 abbrev pub gathered : List Formula → Formula
 gathered ps = fold (λ found p. disjunction p found) falsity ps
 
--- whether the formula of a counting quantifier over n bodies has bodies in it
+-- the formula of a counting quantifier over n bodies contains bodies
 abbrev pub asks_bodies : CountOp → ℕ → ℕ → Bool
 asks_bodies Exactly n m = nat_le m n
 asks_bodies AtLeast n m = nat_le 1 m && nat_le m n

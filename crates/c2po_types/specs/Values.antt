@@ -1,5 +1,5 @@
--- The values that expressions unfold to. A value is its expression written out: no name, no picked field and no
--- variable of a quantifier is in it. `specs/Weights.antt` says what it weighs.
+-- The values that expressions unfold to. A value is an expression written out, without names, picked fields and variables of
+-- quantifiers. `specs/Weights.antt` defines its weight.
 
 use Rattle.std.specs.Prelude.{ℕ, ℤ, min, Bool, true, false, Option, Some, None, List, [], ◌∷◌, fold, length}
 use Rattle.std.specs.Prelude.{slice_index_or, position}
@@ -18,7 +18,7 @@ use Rattle.c2po_types.specs.declared.operators.UnaryOp.TheVariants.{Minus, Not, 
 use Rattle.c2po_types.specs.declared.operators.BinaryOp.{BinaryOp}
 use Rattle.c2po_types.specs.declared.operators.BinaryOp.TheVariants.{Arith, Compare, Logic, Between}
 
--- a value: an integer or a formula, the value of a struct with the struct's name, or a set
+-- a value: an integer or a formula, a struct's value with the struct's name, or a set
 mutual
   pub data Value : Type 0 where
     leaf : Leaf → Value
@@ -50,24 +50,24 @@ abbrev pub values_from : List Value → Values
 values_from [] = none
 values_from (v ∷ vs) = more v (values_from vs)
 
--- the interval from a to b; where that is out of bounds, the nearest one
+-- the interval from a to b, or the nearest interval if it is out of bounds
 abbrev pub interval : ℕ → ℕ → Interval
 interval a b = record { lo = min a (min b MAX_BOUND); hi = min b MAX_BOUND }
 
--- an operator over an integer or a formula
+-- the integer or formula of an operator over one operand
 abbrev pub unary_tree : UnaryOp → Option Tree → Tree
 unary_tree Minus o = number (negative (term_in o))
 unary_tree Not o = formula (negation (formula_in o))
 unary_tree (Window op a b) o = formula (windowed op (interval a b) (formula_in o))
 
--- an operator over two integers or two formulas
+-- the integer or formula of an operator over two operands
 abbrev pub binary_tree : BinaryOp → Option Tree → Option Tree → Tree
 binary_tree (Arith op) o q = number (arithmetic op (term_in o) (term_in q))
 binary_tree (Compare op) o q = formula (atom (comparison op (term_in o) (term_in q)))
 binary_tree (Logic op) o q = formula (connected op (formula_in o) (formula_in q))
 binary_tree (Between op a b) o q = formula (ranged op (interval a b) (formula_in o) (formula_in q))
 
--- formulas joined by an operator, the brackets to the left: false where there are none
+-- the formula that joins formulas by an operator, from left to right; `false` if there are none
 abbrev pub joined_formula : LogicOp → List Formula → Formula
 joined_formula op [] = falsity
 joined_formula op (p ∷ ps) = fold (connected op) p ps
@@ -84,12 +84,12 @@ counted_formula bodies (counting.both p q) = conjunction (counted_formula bodies
 counted_formula bodies (counting.either p q) = disjunction (counted_formula bodies p) (counted_formula bodies q)
 counted_formula bodies (counting.negation p) = negation (counted_formula bodies p)
 
--- the formula of a counting quantifier with the number m: false where it has no body
+-- the formula of a counting quantifier with the number m; `false` if it has no body
 abbrev pub counting_formula : CountOp → ℕ → List Formula → Formula
 counting_formula op m [] = falsity
 counting_formula op m (p ∷ ps) = counted_formula (p ∷ ps) (counting.counting op (length (p ∷ ps)) m)
 
--- the integer or formula that a value is, if it is one
+-- the integer or formula of a value, if it is one
 abbrev mutual
   pub tree_in : Value → Option Tree
   tree_in (leaf l) = Some (leaf_tree l)
@@ -110,11 +110,11 @@ abbrev mutual
   formulas_in none = []
   formulas_in (more v vs) = formula_in (tree_in v) ∷ formulas_in vs
 
--- the integer of a value: 0 where the value is of another kind
+-- the integer of a value; 0 if the value isn't an integer
 abbrev pub term_of : Value → Term
 term_of v = term_in (tree_in v)
 
--- the formula of a value: of one of another kind nothing is asked
+-- the formula of a value; `false` if the value isn't a formula
 abbrev pub formula_of : Value → Formula
 formula_of v = formula_in (tree_in v)
 
@@ -130,31 +130,31 @@ truth_value b = leaf (boolean b)
 abbrev pub built : List ℕ → Values → Value
 built x vs = structure x vs
 
--- a set
+-- the value of a set
 abbrev pub grouped : Values → Value
 grouped vs = set vs
 
--- the members of a set; nothing else has any
+-- the members of a set; another value has none
 abbrev pub members : Value → List Value
 members (set vs) = list_of vs
 members (structure x vs) = []
 members (leaf l) = []
 
--- the part at a place of a whole, if it is there; else the whole itself
+-- the part of a whole at a place, or the whole itself if there is no such part
 abbrev pub part_or : Value → List Value → Option ℕ → Value
 part_or whole vs (Some i) = slice_index_or vs i whole
 part_or whole vs None = whole
 
--- the part of a struct's value that a field names, where the struct has those fields; else the value itself
+-- the part of a struct's value that a field names, or the value itself if it has no such part
 abbrev pub picked : (List ℕ → List (List ℕ)) → List ℕ → Value → Value
 picked fields x (structure y vs) = part_or (structure y vs) (list_of vs) (position (bytes_eq x) (fields y))
 picked fields x (set vs) = set vs
 picked fields x (leaf l) = leaf l
 
--- bodies joined by an operator
+-- the value of bodies joined by an operator
 abbrev pub connected_all : LogicOp → List Value → Value
 connected_all op vs = leaf (joins op (values_from vs))
 
--- a counting quantifier with the number m over its bodies
+-- the value of a counting quantifier with the number m over its bodies
 abbrev pub counted : CountOp → ℕ → List Value → Value
 counted op m vs = leaf (counts op m (values_from vs))

@@ -8,13 +8,13 @@ use Rattle.c2po_types.specs.Values.{integer, boolean, signal, one, two, joins, c
 abbrev pub counting_weight : ℕ → ℕ → ℕ
 counting_weight n m = 2 * n * (min m n + 1) + 4
 
--- the same over these bodies: nothing where there are none, as in no text
+-- the weight of a counting quantifier over these bodies without the bodies; 0 if there are none, which no text has
 abbrev pub gates_weight : Values → ℕ → ℕ
 gates_weight none m = 0
 gates_weight (more v vs) m = counting_weight (length (list_of (more v vs))) m
 
--- A number, a Boolean and a signal weigh 1, a struct's value, a set and an operator 1 more than their parts. Joined
--- bodies weigh what they weigh, and 1 for each operator between them.
+-- The weight of a value. A number, a Boolean and a signal weigh 1; a struct's value, a set and an operator weigh 1 more than
+-- their parts. Joined bodies weigh 1 more for each operator between them.
 abbrev mutual
   pub weight : Value → ℕ
   weight (leaf l) = leaf_weight l

@@ -14,7 +14,7 @@ use crate::fact::Fact;
 use crate::room::Room;
 use mltl_base::CountOp;
 
-/// Returns the weight of a counting quantifier over `n` bodies, the bodies apart.
+/// Returns the weight of a counting quantifier over `n` bodies without its bodies.
 pub(crate) fn gates_weight(n: usize, number: u64, room: Room) -> Result<u32, UnfoldFault>
     ensures weight { IfOk result (λ w. w ≡ counting_weight n number) }
     ensures light { IfOk result (λ w. w ≤ room) }
@@ -33,8 +33,8 @@ pub(crate) fn gates_weight(n: usize, number: u64, room: Room) -> Result<u32, Unf
     }
 }
 
-/// Returns `true` if the formula of a counting quantifier over `n` bodies has bodies in it, and `false` if it is a
-/// Boolean.
+/// Returns `true` if the formula of a counting quantifier over `n` bodies contains bodies, and
+/// `false` if it is a Boolean.
 fn has_bodies(op: CountOp, n: usize, number: u64) -> bool
     ensures { result ≡ asks_bodies op n number }
 {
@@ -46,7 +46,7 @@ fn has_bodies(op: CountOp, n: usize, number: u64) -> bool
     }
 }
 
-/// Returns the fact of a counting quantifier, from the fact of its `n` bodies together.
+/// Returns the fact of a counting quantifier over `n` bodies, from the fact of all bodies together.
 pub(crate) fn counted_fact(op: CountOp, n: usize, number: u64, bodies: Fact) -> Fact
     ensures { (ps : Seq Formula) → length ps ≡ n → Tells bodies (Some (formula (gathered ps)))
         → Tells result (Some (formula (counted_formula ps (counting op n number)))) }

@@ -1,9 +1,10 @@
-//! What the items of a specification declare.
+//! The declarations of a specification.
 
 use crate::{Kind, Meaning, NameTable, Signal};
 use mltl_base::List;
 
-/// The names that the items so far declare, with the fields of structs and the signals, in the order of declaration.
+/// The names that the items so far declare, the fields of structs, and the signals, in the order of
+/// declaration.
 #[derive(Drop)]
 pub struct Declarations {
     /// Structs, signals and defined values, which share one space of names.

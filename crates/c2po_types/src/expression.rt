@@ -16,7 +16,7 @@ use mltl_base::Name;
 use mltl_base::limits::{MAX_BOUND, MAX_COUNT};
 use std::alloc::Global;
 
-/// The kind of a formula over an interval, whose operands are truths where a test holds.
+/// Returns the kind of a formula over an interval, if `holds` says that its operands are Booleans.
 fn window(line: u32, low: u64, high: u64, holds: bool) -> Result<Kind, TypeFault>
     ensures { Gives result (within_bounds line low high (kinds.expected line holds kinds.truth)) }
 {
@@ -26,7 +26,7 @@ fn window(line: u32, low: u64, high: u64, holds: bool) -> Result<Kind, TypeFault
     expect(line, holds, TRUTH)
 }
 
-/// The kinds of operands with their lines.
+/// Returns the kinds of operands with their lines.
 #[cycle(kinds)]
 fn kinds_of(
     alloc: Global,
@@ -43,7 +43,8 @@ fn kinds_of(
     Ok(kinds)
 }
 
-/// The kind of a quantifier over a set of a kind, from its variable, its number and its body.
+/// Returns the kind of a quantifier over a set of this kind, from its variable, its number and its
+/// body.
 #[cycle(kinds)]
 fn quantified(
     alloc: Global,
@@ -69,7 +70,7 @@ fn quantified(
     expect(line, is_same(kind, TRUTH), TRUTH)
 }
 
-/// The kind of a struct's value, from the name in front of its operands.
+/// Returns the kind of a struct's value, from the struct's name and the operands.
 fn built(
     line: u32,
     scope: &Scope<'_>,
@@ -82,7 +83,8 @@ fn built(
     build(line, scope.declared(), operands, scope.meaning(name))
 }
 
-/// Returns the kind of an operator between integers, from the kinds of its left and its right operand.
+/// Returns the kind of an operator between integers, from the kind of its left operand and its
+/// right operand.
 #[cycle(kinds)]
 fn numbers(
     alloc: Global,
@@ -99,7 +101,8 @@ fn numbers(
     expect(line, are_same(left, right, WHOLE), given)
 }
 
-/// The kind of an operator between truths, from the kind at its left and its right operand.
+/// Returns the kind of an operator between Booleans, from the kind of its left operand and its
+/// right operand.
 #[cycle(kinds)]
 fn truths(
     alloc: Global,
@@ -115,7 +118,7 @@ fn truths(
     expect(line, are_same(left, right, TRUTH), TRUTH)
 }
 
-/// The kind of a temporal operator over one operand.
+/// Returns the kind of a temporal operator over one operand.
 #[cycle(kinds)]
 fn in_window(
     alloc: Global,
@@ -131,10 +134,10 @@ fn in_window(
     window(line, low, high, is_same(kind, TRUTH))
 }
 
-/// The kind of an expression, at a place where a scope is visible.
+/// Returns the kind of an expression in a scope.
 ///
-/// Errors: the first fault of names and kinds, operands first and from the left, with the line of its expression;
-/// `Memory` when out of memory.
+/// Errors: the first fault of names and kinds, with the line of its expression; operands come
+/// before operators, from left to right; `Memory` when out of memory.
 #[cycle(kinds)]
 pub fn kind_of(alloc: Global, scope: &Scope<'_>, expr: &Expr) -> Result<Kind, TypeFault>
     ensures kind { Gives result (kind_in (shape expr.now) (visible scope.now)) }

@@ -40,7 +40,7 @@ impl Tenses {
         matches!(self, Tenses::Future | Tenses::Both)
     }
 
-    /// Returns `true` if these are the same.
+    /// Returns `true` if both have the same tenses.
     #[inline(always)]
     fn is(self, other: Tenses) -> bool
         ensures { result ≡ true → self ≡ other }
@@ -68,7 +68,7 @@ impl Tenses {
         }
     }
 
-    /// Adds an operator of the past.
+    /// Returns these tenses with the past.
     #[inline(always)]
     fn and_past(self) -> Tenses
         ensures past { with_past result ≡ true }
@@ -80,7 +80,7 @@ impl Tenses {
         }
     }
 
-    /// Adds an operator of the future.
+    /// Returns these tenses with the future.
     #[inline(always)]
     fn and_future(self) -> Tenses
         ensures past { with_past result ≡ with_past self }
@@ -93,7 +93,8 @@ impl Tenses {
     }
 }
 
-/// A fact of a value: the range of an integer, or why it has none, or the first fault and the tenses of a formula.
+/// A fact of a value: the range of an integer or the reason why it has none, or the first fault and
+/// the tenses of a formula.
 #[derive(Clone, Copy)]
 pub enum Fact {
     Number(Range),
@@ -103,7 +104,7 @@ pub enum Fact {
     Parts,
 }
 
-/// Returns the range of an operand, and any range if it isn't an integer.
+/// Returns the range of an operand, or the range of 0 if it isn't an integer.
 fn range_of(fact: &Fact) -> Result<Range, NoRange>
     ensures { told_range result ≡ range_in (fact_view fact.now) }
 {
@@ -114,7 +115,7 @@ fn range_of(fact: &Fact) -> Result<Range, NoRange>
     }
 }
 
-/// Returns the first fault of an operand, and none if it isn't a formula.
+/// Returns the first fault of an operand, or `None` if it isn't a formula.
 pub fn fault_of(fact: &Fact) -> Option<NoRange>
     ensures { told_fault result ≡ fault_in (fact_view fact.now) }
 {
@@ -124,7 +125,7 @@ pub fn fault_of(fact: &Fact) -> Option<NoRange>
     }
 }
 
-/// Returns the tenses of an operand, and none if it isn't a formula.
+/// Returns the tenses of an operand, or `Tenses::None` if it isn't a formula.
 pub fn tenses_of(fact: &Fact) -> Tenses
     ensures past { with_past result ≡ past_in (fact_view fact.now) }
     ensures future { with_future result ≡ future_in (fact_view fact.now) }
@@ -145,14 +146,15 @@ fn number_fact(range: Result<Range, NoRange>) -> Fact
     }
 }
 
-/// Returns the range of a negation, or why its operand has none.
+/// Returns the range of the negative of an integer, or the reason why the integer has no range.
 fn negated_range(a: Result<Range, NoRange>) -> Result<Range, NoRange>
     ensures { told_range result ≡ over negated (told_range a) }
 {
     range::negation(a?)
 }
 
-/// Returns the range of an operation on two integers, or the first reason why there is none, the left operand first.
+/// Returns the range of an operation on two integers, or the first reason why there is none, left
+/// operand first.
 fn computed_range(
     op: ArithOp,
     a: Result<Range, NoRange>,
@@ -171,14 +173,14 @@ fn computed_range(
     }
 }
 
-/// Returns why there is no range.
+/// Returns the reason why an integer has no range, if it has none.
 fn why_none_of(range: Result<Range, NoRange>) -> Option<NoRange>
     ensures { told_fault result ≡ why_none (told_range range) }
 {
     range.err()
 }
 
-/// Returns the first of two faults, the left one first.
+/// Returns the left fault, or the right one if there is no left fault.
 pub fn first_fault(left: Option<NoRange>, right: Option<NoRange>) -> Option<NoRange>
     ensures { told_fault result ≡ or_later (told_fault left) (told_fault right) }
 {
@@ -193,7 +195,8 @@ fn are_same(a: Range, b: Range) -> bool
 }
 
 impl Fact {
-    /// Returns `true` if this is the same fact of an integer with a range, or of a formula without a fault.
+    /// Returns `true` if this is the same fact of an integer with a range, or of a formula without
+    /// a fault.
     pub(crate) fn is(&self, other: &Fact) -> bool
         ensures { result ≡ true → self.now ≡ other.now }
     {
@@ -240,7 +243,7 @@ impl Fact {
         Fact::Number(range::signal())
     }
 
-    /// Returns the fact of an operand as a formula.
+    /// Returns the fact of an operand that is taken as a formula.
     pub fn formula(a: &Fact) -> Fact
         ensures { (o : Maybe Tree) → Tells a.now o
             → Tells result (Some (formula (formula_in o))) }

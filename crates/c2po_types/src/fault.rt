@@ -1,4 +1,4 @@
-//! Why a specification is refused.
+//! Faults of a specification.
 
 ghost use Rattle.std.specs.Prelude.{◌≡◌};
 ghost use Rattle.c2po_types.specs.declared.fault.TypeFault.TheVariants.{Memory};
@@ -8,27 +8,27 @@ use std::alloc::{AllocError, AllocFailed};
 /// The first fault of a specification, with its line, counted from 1.
 #[derive(Clone, Copy)]
 pub enum TypeFault {
-    /// A name that nothing visible has.
+    /// A name isn't visible.
     Unknown(u32),
-    /// A name that is declared already.
+    /// A name is declared twice.
     Twice(u32),
-    /// A value of another kind than its place asks for.
+    /// A value has another kind than its place requires.
     Kind(u32),
-    /// Another number of arguments than the struct has fields.
+    /// The number of arguments isn't the struct's number of fields.
     Count(u32),
-    /// A field that the struct doesn't have.
+    /// The struct has no such field.
     Field(u32),
-    /// An interval or a number that is out of bounds.
+    /// An interval or a number is out of bounds.
     Bounds(u32),
-    /// More signals than a specification may have.
+    /// The specification has too many signals.
     Signals(u32),
-    /// Outputs or a definition that unfold to too much.
+    /// The outputs or a definition weigh too much when unfolded.
     Wide(u32),
-    /// A divisor that isn't a number other than 0.
+    /// A divisor isn't a number, or is 0.
     Divisor(u32),
-    /// An integer that may leave 64 bits.
+    /// An integer may leave 64 bits.
     Range(u32),
-    /// An output of both tenses, or of the other tense than its section.
+    /// An output has an operator of the other tense than its section.
     Tense(u32),
     /// Out of memory.
     Memory,

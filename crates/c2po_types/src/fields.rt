@@ -27,7 +27,7 @@ impl Model for Fields {
 }
 
 impl Fields {
-    /// Makes the fields of these names. If two have one name, the name means the first.
+    /// Makes the fields with these names. A name that occurs twice means the first field.
     pub fn of(alloc: Global, names: List<Name>) -> Result<Fields, AllocError>
         ensures { IfOk result (λ fields. fields ≡ names) }
     {
@@ -49,7 +49,7 @@ impl Fields {
         self.names.len()
     }
 
-    /// Returns `true` if a field is the first one.
+    /// Returns `true` if the field is the first one.
     fn is_first(&self, field: &Name) -> bool
         ensures { result ≡ true → position (bytes_eq field.now) self.now ≡ Some 0 }
     {

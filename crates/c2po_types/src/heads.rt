@@ -1,4 +1,5 @@
-//! The heads of expressions: names and picked fields are followed, and what they leave aside is not visited.
+//! The heads of expressions. Names and picked fields are followed; parts that aren't picked aren't
+//! visited.
 
 ghost use Rattle.std.specs.Prelude.{◌≡◌, ℕ, Some, length, position, slice_get, IfOk, IfErr};
 ghost use Rattle.std.specs.Str.{bytes_eq};
@@ -28,7 +29,8 @@ impl Unfolding {
         }
     }
 
-    /// Returns the meaning of a name: the innermost variable of that name, else the declared meaning.
+    /// Returns the meaning of a name: the innermost variable with this name, else the declared
+    /// meaning.
     fn look<'a>(&self, scope: &'a Scope<'a>, name: &Name) -> Named<'a>
         ensures { (env : Env) → Fits self.now scope.now env → Names self.now result (env name.now) }
     {
@@ -72,7 +74,8 @@ impl Unfolding {
         fields.place(field)
     }
 
-    /// Returns the part of a stored struct's value that a field names. Another value is its own part.
+    /// Returns the part of a stored struct's value that a field names, or the value itself if it
+    /// has no such part.
     fn held_part(&self, scope: &Scope<'_>, stored: Stored, field: &Name) -> Stored
         ensures { (env : Env) (v : Value) → Fits self.now scope.now env → Holds self.now stored v
             → Holds self.now result (picked (λ y. fields_in (env y)) field.now v) }
@@ -124,7 +127,8 @@ impl Unfolding {
         }
     }
 
-    /// Follows the part that a field names to its head. A value without such a part is its own part.
+    /// Follows the part that a field names to its head, or returns the value itself if it has no
+    /// such part.
     #[cycle(heading)]
     fn part<'a>(
         &self,
@@ -154,7 +158,7 @@ impl Unfolding {
         }
     }
 
-    /// Returns the number of members of a set, and 0 for any other value.
+    /// Returns the number of members of a set, or 0 for any other value.
     pub(crate) fn member_count(&self, set: &Head<'_>) -> usize
         ensures { (v : Value) → Heads self.now set.now v → result ≡ length (members v) }
     {
@@ -165,7 +169,7 @@ impl Unfolding {
         }
     }
 
-    /// Returns the members of a stored set, and none for any other value.
+    /// Returns the members of a stored set, or an empty list for any other value.
     fn held_members(&self, stored: Stored) -> &[Stored]
         ensures { (v : Value) → Holds self.now stored v → HoldMembers self.now result.now v }
     {

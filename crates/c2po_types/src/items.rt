@@ -1,4 +1,4 @@
-//! What items declare, and their faults of names and kinds.
+//! The declarations of items, and their faults of names and kinds.
 
 ghost use Rattle.std.specs.Prelude.{◌≡◌, [], false, Ok, OnOk, map};
 ghost use Rattle.c2po_ast.specs.Shape.{shape};
@@ -20,7 +20,7 @@ const INT: &[u8] = b"int";
 /// The name of the Boolean type.
 const BOOL: &[u8] = b"bool";
 
-/// The kind that a type names.
+/// Returns the kind that a type names.
 fn written_kind(line: u32, declared: &Declarations, tree: &TypeTree) -> Result<Kind, TypeFault>
     ensures { Gives result (type_kind line declared.now (type_shape tree.now)) }
 {
@@ -47,7 +47,7 @@ fn written_kind(line: u32, declared: &Declarations, tree: &TypeTree) -> Result<K
     }
 }
 
-/// Puts one more field after those before.
+/// Adds a field to the fields of a struct.
 fn add_field(
     alloc: Global,
     declared: &Declarations,
@@ -66,7 +66,7 @@ fn add_field(
     Ok(())
 }
 
-/// The fields of a struct.
+/// Returns the fields of a struct with their kinds.
 fn fields_of(
     alloc: Global,
     declared: &Declarations,
@@ -82,7 +82,7 @@ fn fields_of(
     Ok(fields)
 }
 
-/// Whether a signal of a kind is Boolean.
+/// Returns `true` if a signal of this kind is Boolean, and `false` if it is an integer.
 fn is_truth(line: u32, kind: Kind) -> Result<bool, TypeFault>
     ensures { Gives result (signal_truth line kind) }
 {
@@ -96,7 +96,7 @@ fn is_truth(line: u32, kind: Kind) -> Result<bool, TypeFault>
 }
 
 impl Declarations {
-    /// Makes the declarations before the first item. It does not allocate.
+    /// Makes the declarations before the first item. Doesn't allocate.
     pub fn new(alloc: Global) -> Self
         ensures { result ≡ nothing }
     {
@@ -107,7 +107,7 @@ impl Declarations {
         }
     }
 
-    /// Declares one more struct.
+    /// Declares a struct.
     pub fn declare_struct(
         &mut self,
         alloc: Global,
@@ -128,7 +128,7 @@ impl Declarations {
         Ok(())
     }
 
-    /// Declares one more signal.
+    /// Declares a signal.
     fn declare_signal(
         &mut self,
         alloc: Global,
@@ -185,7 +185,7 @@ impl Declarations {
         self.declare_signals(alloc, line, truth, names.as_slice())
     }
 
-    /// Declares one more defined value, whose name isn't among those declared.
+    /// Declares a defined value under a new name.
     pub fn declare_value(&mut self, alloc: Global, name: &Name, kind: Kind) -> Result<(), TypeFault>
         requires { is_named name.now self.old.names ≡ false }
         ensures { Makes result self.new (Ok (with_value name.now kind self.old)) }
@@ -195,7 +195,7 @@ impl Declarations {
     }
 }
 
-/// The kind of a definition, whose name isn't visible in it.
+/// Returns the kind of a definition, in which its own name isn't visible.
 pub fn check_define(
     alloc: Global,
     declared: &Declarations,
@@ -213,7 +213,7 @@ pub fn check_define(
     Ok(kind)
 }
 
-/// Puts one more label of an output after those before, where the output has one.
+/// Adds the label of an output, if it has one, to the labels so far.
 pub fn declare_label(
     alloc: Global,
     labels: &mut NameTable<()>,
@@ -232,7 +232,7 @@ pub fn declare_label(
     Ok(())
 }
 
-/// Whether the formula of an output is Boolean.
+/// Checks that the formula of an output is Boolean.
 pub fn check_formula(
     alloc: Global,
     declared: &Declarations,
@@ -245,7 +245,7 @@ pub fn check_formula(
     expect(line, is_same(found, TRUTH), TRUTH)
 }
 
-/// Whether the formulas of a contract are truths.
+/// Checks that both formulas of a contract are Boolean.
 pub fn check_contract(
     alloc: Global,
     declared: &Declarations,

@@ -1,6 +1,6 @@
 //! The kinds of values.
 
-/// What the sets of a kind contain.
+/// The kind of a value that isn't a set.
 #[derive(Clone, Copy, PartialEq, Eq)]
 pub enum Base {
     Int,
@@ -9,7 +9,7 @@ pub enum Base {
     Struct(u32),
 }
 
-/// The kind of a value: a number of nested sets around a base, none around a plain value.
+/// The kind of a value: a base kind within a number of nested sets, 0 if the value isn't a set.
 #[derive(Clone, Copy, PartialEq, Eq)]
 pub struct Kind {
     pub sets: u64,

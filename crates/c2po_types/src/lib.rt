@@ -1,18 +1,20 @@
 //! The checker of the compiler: names, kinds, weights, ranges and tenses of a specification.
 //!
-//! A value is an integer, a Boolean, a struct or a set. The definitions in this crate's `specs/` give each expression
-//! its kind, or its first fault of names and kinds, and they say what items declare. A name is visible from the item
-//! after its declaration on.
+//! A value is an integer, a Boolean, a struct or a set. The definitions in this crate's `specs/`
+//! give each expression its kind, or its first fault of names and kinds, and each item its
+//! declarations. A name is visible from the item after its declaration on.
 //!
-//! The first fault of a specification is defined in this crate's `specs/`: items in the order of the text, within an
-//! item names and kinds first, operands before operators and from left to right; then the weight of what it unfolds
-//! to, divisors and ranges, and tenses. `check` returns it, or the tree unchanged where there is none.
+//! The first fault of a specification is defined in `specs/FirstFault.antt`. Items are taken in the
+//! order of the text. In an item names and kinds come first, operands before operators and from
+//! left to right; then the weight of the unfolded values, divisors and ranges, and tenses. `check`
+//! returns the first fault, or the tree unchanged if it has none.
 //!
-//! `value_of` in `specs/Environment.antt` says what an expression unfolds to, and `weight` in `specs/Weights.antt` what
-//! that weighs. [`Unfolding`] holds the meanings of the names of a specification, and finds the weight of a value, the
-//! first fault of its integers and its tenses, without its nodes. A part that a picked field leaves aside is never
-//! visited. A definition is stored as its summary, part by part, so each use costs one look. The body of a quantifier is
-//! looked at once for members in a row that are stored as the same value, and else for each member.
+//! `value_of` in `specs/Environment.antt` defines the value that an expression unfolds to, and
+//! `weight` in `specs/Weights.antt` its weight. [`Unfolding`] holds the meanings of the names of a
+//! specification, and finds the weight of a value, the first fault of its integers and its tenses,
+//! without its nodes. Parts that aren't picked aren't visited. A definition is stored as its
+//! summary, part by part, so each use costs one look-up. The body of a quantifier is summarized
+//! once for successive members that are stored as the same value, and otherwise for each member.
 //!
 //! ```text
 //! let tree = parse(alloc, &lex(alloc, b"INPUT p: bool; FTSPEC f: F[0,3] p;")?)?;

@@ -8,7 +8,7 @@ use std::alloc::{AllocError, Global};
 use std::marker::Model;
 use std::mem;
 
-/// The number of places; the bytes of a name give it one of them.
+/// The number of places. The bytes of a name determine its place.
 const PLACES: usize = 16_384;
 
 /// A name, and the number of names before it.
@@ -18,13 +18,14 @@ pub struct Numbered {
     pub number: usize,
 }
 
-/// Names with their meanings, which contracts see as a table. Most names are found without a search, at the place that
-/// their bytes give: chains of picked fields look up two names for each field.
+/// Names with their meanings, which contracts see as a table. Most names are found without a
+/// search, at the place that their bytes determine: a chain of picked fields looks up two names for
+/// each field.
 #[derive(Drop)]
 pub struct Meanings<V> {
     table: NameTable<V>,
     names: List<Numbered>,
-    /// The index of the last name with each place.
+    /// The index of the last name at each place.
     places: Vec<u32>,
 }
 
@@ -39,7 +40,7 @@ impl<V> Model for Meanings<V> {
     ghost invariant = { λ meanings. ArePlaced meanings.names meanings.table };
 }
 
-/// Returns the place that the bytes of a name give.
+/// Returns the place of a name, which its bytes determine.
 fn place_of(name: &Name) -> usize {
     let mut sum: u32 = 0;
     for byte in name.bytes() {
@@ -48,7 +49,7 @@ fn place_of(name: &Name) -> usize {
     sum as usize % PLACES
 }
 
-/// Writes the index of a name at its place. The meaning of a name doesn't depend on it.
+/// Writes the index of a name at its place. No meaning depends on it.
 fn mark(places: &mut Vec<u32>, alloc: Global, name: &Name, index: u32) -> Result<(), AllocError> {
     if places.is_empty() {
         *places = vec![in alloc; 0; PLACES]?;
@@ -60,7 +61,7 @@ fn mark(places: &mut Vec<u32>, alloc: Global, name: &Name, index: u32) -> Result
 }
 
 impl<V> Meanings<V> {
-    /// Makes the table without names. It does not allocate.
+    /// Makes a table without names. Doesn't allocate.
     #[tactic(auto, using(crate::proofs::Finding::none_placed))]
     pub fn new(alloc: Global) -> Self
         ensures { result ≡ [] }
@@ -79,7 +80,7 @@ impl<V> Meanings<V> {
         self.table.len()
     }
 
-    /// Returns `true` if a name is there.
+    /// Returns `true` if the name has a meaning.
     pub fn contains(&self, name: &Name) -> bool
         ensures { result ≡ is_named name.now self.now }
     {
@@ -98,7 +99,7 @@ impl<V: Copy> Meanings<V> {
         }
     }
 
-    /// Returns the meaning of a name that is the last one at its place.
+    /// Returns the meaning of a name if it is the last name at its place.
     fn near(&self, name: &Name) -> Option<V>
         ensures { IfSome result (λ meaning. entry_of name.now self.now ≡ Some meaning) }
     {
@@ -113,7 +114,7 @@ impl<V: Copy> Meanings<V> {
 }
 
 impl<V: Drop> Meanings<V> {
-    /// Appends a name that isn't among the others.
+    /// Appends a new name with its meaning.
     #[tactic(auto, using(crate::proofs::Finding::none_placed))]
     pub fn add(&mut self, alloc: Global, name: &Name, meaning: V) -> Result<(), AllocError>
         requires { entry_of name.now self.old ≡ None }

@@ -6,7 +6,7 @@ ghost use Rattle.c2po_types.specs.Outputs.{name_of};
 use itoa::Buffer;
 use mltl_base::Name;
 
-/// The decimal text of a number.
+/// Returns the decimal text of a number as a name.
 #[tactic(auto, using(std::proofs::lemmas::Fmt::decimal_nonempty))]
 fn numeral(number: usize) -> Name
     ensures { result ≡ decimal number }
@@ -15,7 +15,7 @@ fn numeral(number: usize) -> Name
     Name::of(buffer.format(number).as_bytes()).unwrap()
 }
 
-/// The name of the output with a number: its label, or the decimal text of the number.
+/// Returns the name of an output: its label, or the decimal text of its number if it has none.
 pub fn output_name(number: usize, label: &Option<Name>) -> Name
     ensures { result ≡ name_of number label.now }
 {

@@ -1,4 +1,4 @@
-//! What is asked of the kinds of operands.
+//! Requirements on the kinds of operands.
 
 ghost use Rattle.std.specs.Prelude.{◌≡◌, ◌&&◌, Ok, slice_get};
 ghost use Rattle.c2po_types.specs.Checking.{Gives};
@@ -13,27 +13,27 @@ pub const WHOLE: Kind = Kind {
     base: Base::Int,
 };
 
-/// The kind of Booleans, and so of formulas.
+/// The kind of Booleans, which is also the kind of formulas.
 pub const TRUTH: Kind = Kind {
     sets: 0,
     base: Base::Bool,
 };
 
-/// Whether two kinds are one.
+/// Returns `true` if two kinds are the same.
 pub fn is_same(left: Kind, right: Kind) -> bool
     ensures { result ≡ same_kind left right }
 {
     left == right
 }
 
-/// Whether two operands have a kind.
+/// Returns `true` if two operands both have the wanted kind.
 pub fn are_same(left: Kind, right: Kind, wanted: Kind) -> bool
     ensures { result ≡ (same_kind left wanted && same_kind right wanted) }
 {
     is_same(left, wanted) && is_same(right, wanted)
 }
 
-/// A kind where a test holds; the fault `Kind` where it fails.
+/// Returns the given kind if a test holds, and the fault `Kind` if it fails.
 pub fn expect(line: u32, holds: bool, given: Kind) -> Result<Kind, TypeFault>
     ensures { Gives result (expected line holds given) }
 {
@@ -44,7 +44,7 @@ pub fn expect(line: u32, holds: bool, given: Kind) -> Result<Kind, TypeFault>
     }
 }
 
-/// The kind of sets of a kind.
+/// Returns the kind of sets with members of this kind.
 pub fn set_of(kind: Kind) -> Result<Kind, TypeFault>
     ensures { Gives result (Ok (set_kind kind)) }
 {
@@ -55,7 +55,7 @@ pub fn set_of(kind: Kind) -> Result<Kind, TypeFault>
     })
 }
 
-/// The kind of the members of a set.
+/// Returns the kind of the members of a set.
 pub fn member_of(line: u32, kind: Kind) -> Result<Kind, TypeFault>
     ensures { Gives result (member_kind line kind) }
 {
@@ -77,7 +77,7 @@ pub fn value_of(line: u32, meaning: Option<Meaning>) -> Result<Kind, TypeFault>
     }
 }
 
-/// Whether operands have the kinds of fields, one by one.
+/// Returns `true` if each operand has the kind of its field.
 fn fits(fields: &NameTable<Kind>, operands: &[(u32, Kind)]) -> bool
     ensures { result ≡ fit fields.now operands.now }
 {
@@ -92,7 +92,7 @@ fn fits(fields: &NameTable<Kind>, operands: &[(u32, Kind)]) -> bool
     true
 }
 
-/// The value of the struct of a number, from operands.
+/// Returns the kind of a value of the struct with this number, if the operands fit its fields.
 fn build_struct(
     line: u32,
     declared: &Declarations,
@@ -114,7 +114,7 @@ fn build_struct(
     expect(line, fits(fields, operands), given)
 }
 
-/// Returns the kind of a struct's value from operands, by the meaning of the name in front of them.
+/// Returns the kind of a struct's value, from the operands and the meaning of the struct's name.
 pub fn build(
     line: u32,
     declared: &Declarations,
@@ -130,7 +130,7 @@ pub fn build(
     }
 }
 
-/// The line of the first operand of another kind.
+/// Returns the line of the first operand of another kind.
 fn first_other(kind: Kind, operands: &[(u32, Kind)]) -> Option<u32>
     ensures { result ≡ other_line kind operands.now }
 {
@@ -144,7 +144,7 @@ fn first_other(kind: Kind, operands: &[(u32, Kind)]) -> Option<u32>
     None
 }
 
-/// A set of operands.
+/// Returns the kind of a set of operands.
 pub fn gather(line: u32, operands: &[(u32, Kind)]) -> Result<Kind, TypeFault>
     ensures { Gives result (set_of_elements line operands.now) }
 {
@@ -157,7 +157,7 @@ pub fn gather(line: u32, operands: &[(u32, Kind)]) -> Result<Kind, TypeFault>
     }
 }
 
-/// The struct that a kind is.
+/// Returns the number of the struct, if the kind is a struct.
 fn struct_number(kind: Kind) -> Option<u32>
     ensures { result ≡ struct_of kind }
 {
@@ -167,7 +167,7 @@ fn struct_number(kind: Kind) -> Option<u32>
     }
 }
 
-/// A field of a value.
+/// Returns the kind of a field of a struct's value.
 pub fn pick(line: u32, declared: &Declarations, field: &Name, kind: Kind) -> Result<Kind, TypeFault>
     ensures { Gives result (picked_kind line field.now declared.now kind) }
 {

@@ -1,4 +1,4 @@
-//! Operators by the number of their operands, and quantifiers by what they do with their bodies.
+//! Operators by the number of their operands, and quantifiers by the way they join their bodies.
 
 ghost use Rattle.std.specs.Prelude.{◌≡◌, true};
 ghost use Rattle.c2po_ast.specs.Shape.{shape};
@@ -28,7 +28,8 @@ pub enum BinaryOp {
     Between(BetweenOp, u64, u64),
 }
 
-/// The bodies of a quantifier: one for each member of a set, which is the value of a variable.
+/// The bodies of a quantifier: one for each member of a set, with the member as the value of the
+/// variable.
 #[derive(Clone, Copy)]
 pub struct Bodies<'a> {
     pub name: &'a Name,
@@ -60,7 +61,8 @@ pub fn is_operator(e: &Expr) -> bool
 }
 
 impl<'a> Operation<'a> {
-    /// Returns the operation of an expression that is a number, a Boolean, an operator or a quantifier.
+    /// Returns the operation of an expression that is a number, a Boolean, an operator or a
+    /// quantifier.
     pub fn of(e: &'a Expr) -> Operation<'a>
         ensures { (env : Env) → is_operator (shape e.now) ≡ true
             → operation_value result env ≡ value_of (shape e.now) env }

@@ -1,4 +1,4 @@
-//! How far the check of a specification has come.
+//! The state of the check of a specification.
 
 ghost use Rattle.std.specs.Prelude.{◌≡◌};
 ghost use Rattle.c2po_types.specs.Environment.{no_names};
@@ -8,13 +8,13 @@ ghost use Rattle.c2po_types.specs.Stepwise.{start};
 use crate::{Declarations, NameTable, Unfolding};
 use std::alloc::Global;
 
-/// What is known after some items.
+/// The state of the check after some items.
 #[derive(Drop)]
 pub struct Progress {
     pub declared: Declarations,
-    /// The names of outputs, which have a separate space.
+    /// The labels of outputs, which have a name space of their own.
     pub labels: NameTable<()>,
-    /// What is known of the values of names.
+    /// The meanings of names with the summaries of their values.
     pub values: Unfolding,
     /// The weight of the outputs together.
     pub total: u32,
@@ -23,7 +23,7 @@ pub struct Progress {
 impl Progress {
     ghost use Rattle.c2po_types.specs.Reaching.{state_of};
 
-    /// Makes what is known before the first item. It does not allocate.
+    /// Makes the state before the first item. Doesn't allocate.
     pub fn new(alloc: Global) -> Self
         ensures start { state_of result no_names ≡ start }
         ensures stands { StandsFor result.values no_names }

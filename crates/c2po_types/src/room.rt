@@ -26,7 +26,7 @@ impl Model for Room {
 }
 
 impl Room {
-    /// Makes the room of a weight.
+    /// Makes the room for a weight.
     pub(crate) fn of(weight: u32) -> Room
         requires { weight ≤ MAX_WEIGHT }
         ensures { result ≡ weight }
@@ -43,7 +43,7 @@ impl Room {
         self.left
     }
 
-    /// Returns the room that a weight leaves, and `Heavy` if the weight is above the room.
+    /// Returns the room that a weight leaves, or `Heavy` if the weight is above the room.
     #[inline(always)]
     pub(crate) fn less(self, weight: u32) -> Result<Room, UnfoldFault>
         ensures left { IfOk result (λ left. left + weight ≡ self) }

@@ -1,4 +1,4 @@
-//! What is visible at a place of an expression.
+//! The names that are visible in an expression.
 
 ghost use Rattle.std.specs.Prelude.{◌≡◌};
 ghost use Rattle.c2po_types.specs.Scopes.{visible, meaning_of};
@@ -6,8 +6,8 @@ ghost use Rattle.c2po_types.specs.Scopes.{visible, meaning_of};
 use crate::{Declarations, Kind, Meaning};
 use mltl_base::Name;
 
-/// The names that are visible at a place: what the items before declare, and the variables of the quantifiers around
-/// it, the innermost first.
+/// The names that are visible in an expression: the declarations of the items before it, and the
+/// variables of the quantifiers around it, the innermost first.
 #[derive(Clone, Copy)]
 pub enum Scope<'a> {
     Items(&'a Declarations),
@@ -16,7 +16,7 @@ pub enum Scope<'a> {
 }
 
 impl<'a> Scope<'a> {
-    /// The meaning of a name.
+    /// Returns the meaning of a name.
     pub fn meaning(&self, name: &Name) -> Option<Meaning>
         ensures { result ≡ meaning_of name.now (visible self.now) }
     {
@@ -34,7 +34,7 @@ impl<'a> Scope<'a> {
         }
     }
 
-    /// What the items before declare.
+    /// Returns the declarations of the items before.
     pub fn declared(&self) -> &'a Declarations
         ensures { result.now ≡ (visible self.now).declared }
     {

@@ -12,7 +12,7 @@ use crate::{TypeFault, TypedSpec};
 use c2po_ast::{Item, SpecTree, copy_tree};
 use std::alloc::Global;
 
-/// What is known after all items.
+/// Returns the state of the check after all items.
 fn run(alloc: Global, items: &[Item]) -> Result<Progress, TypeFault>
     ensures { Comes result (checked (map item_shape items.now)) }
 {
@@ -23,10 +23,11 @@ fn run(alloc: Global, items: &[Item]) -> Result<Progress, TypeFault>
     Ok(progress)
 }
 
-/// The specification of a tree, where it has no fault.
+/// Returns the specification of a tree, if it has no fault.
 ///
-/// Items are taken in the order of the text. Within an item names and kinds come first, operands before operators and
-/// from left to right; then the weight of what it unfolds to, divisors and ranges, and tenses.
+/// Items are taken in the order of the text. In an item names and kinds come first, operands before
+/// operators and from left to right; then the weight of the unfolded values, divisors and ranges,
+/// and tenses.
 ///
 /// Errors: the first fault with its line; `Memory` when out of memory.
 #[tactic(auto, using(crate::proofs::Outcome::no_fault, crate::proofs::Outcome::a_fault))]
@@ -42,10 +43,10 @@ pub fn check(alloc: Global, tree: &SpecTree) -> Result<TypedSpec, TypeFault>
     Ok(TypedSpec::of(copy, progress.declared.signals))
 }
 
-/// The specification of a tree that is given away, where it has no fault. The tree isn't copied, so this takes half the
-/// memory of [`check`].
+/// Returns the specification of a tree that it takes over, if the tree has no fault. The tree isn't
+/// copied, so this takes half the memory of [`check`].
 ///
-/// Errors: those of [`check`].
+/// Errors: as in [`check`].
 #[tactic(auto, using(crate::proofs::Outcome::no_fault, crate::proofs::Outcome::a_fault))]
 pub fn check_owned(alloc: Global, tree: SpecTree) -> Result<TypedSpec, TypeFault>
     requires plain { ArePlainItems (spec_shape tree) }

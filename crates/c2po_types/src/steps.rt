@@ -1,4 +1,4 @@
-//! The check of one item after others.
+//! The check of an item after others.
 
 ghost use Rattle.std.specs.Prelude.{◌≡◌, ◌+◌, ◌≤◌, drop, map, OnOk, IfErr};
 ghost use Rattle.mltl_base.specs.declared.limits.TheConstants.{MAX_WEIGHT};
@@ -24,7 +24,7 @@ use mltl_base::limits::MAX_WEIGHT;
 use mltl_base::{Engine, List, Name, NoRange};
 use std::alloc::Global;
 
-/// The fault of an item whose value isn't found.
+/// Returns the fault of an item whose value isn't unfolded.
 fn too_wide(line: u32, why: UnfoldFault) -> TypeFault
     ensures { result ≡ unfold_fault line why }
 {
@@ -34,7 +34,7 @@ fn too_wide(line: u32, why: UnfoldFault) -> TypeFault
     }
 }
 
-/// Returns the fault of an item with an integer that has no range.
+/// Returns the fault of an item that has an integer without a range.
 fn no_range(line: u32, why: NoRange) -> TypeFault
     ensures { result ≡ range_fault line (reason why) }
 {
@@ -44,7 +44,7 @@ fn no_range(line: u32, why: NoRange) -> TypeFault
     }
 }
 
-/// Whether a formula has an operator of the other tense than its engine's.
+/// Returns `true` if these tenses include the one that the engine doesn't have.
 fn is_mixed(engine: Engine, tenses: Tenses) -> bool
     ensures { result ≡ other_tense engine (with_past tenses) (with_future tenses) }
 {
@@ -54,7 +54,7 @@ fn is_mixed(engine: Engine, tenses: Tenses) -> bool
     }
 }
 
-/// Declares signals from a number on by their numbers.
+/// Declares the signals from a number on, each as its number.
 fn add_signals(
     alloc: Global,
     values: &mut Unfolding,
@@ -72,7 +72,7 @@ fn add_signals(
     Ok(())
 }
 
-/// What an output begins with.
+/// The line, the engine and the label of an output.
 #[derive(Clone, Copy)]
 struct Head<'a> {
     line: u32,
@@ -149,7 +149,7 @@ impl Progress {
         Ok(())
     }
 
-    /// Counts an output with so much weight, where nothing is wrong with it.
+    /// Adds the weight of an output, if the output has no fault.
     fn count_out(
         &mut self,
         line: u32,
@@ -173,7 +173,7 @@ impl Progress {
         Ok(())
     }
 
-    /// Counts a formula whose names and kinds are right as an output.
+    /// Weighs the formula of an output, whose names and kinds are right, and adds the weight.
     fn count_formula(&mut self, alloc: Global, head: Head<'_>, expr: &Expr) -> Result<(), TypeFault>
         requires { self.old.total ≤ MAX_WEIGHT }
         ensures reached { (env : Env) → StandsFor self.old.values env
@@ -204,7 +204,7 @@ impl Progress {
         self.count_formula(alloc, head, expr)
     }
 
-    /// Counts a contract as an output: its left formula is weighed, and its right one is weighed here.
+    /// Weighs the right formula of a contract, and adds the weights of both formulas.
     fn count_right(
         &mut self,
         alloc: Global,
@@ -228,7 +228,7 @@ impl Progress {
         self.count_out(head.line, left.weight + found.weight, why, mixed)
     }
 
-    /// Counts a contract whose names and kinds are right as an output.
+    /// Weighs the formulas of a contract, whose names and kinds are right, and adds their weights.
     fn count_contract(
         &mut self,
         alloc: Global,
@@ -271,7 +271,7 @@ impl Progress {
         self.count_contract(alloc, head, left, right)
     }
 
-    /// Checks one more item.
+    /// Checks an item.
     pub fn step(&mut self, alloc: Global, item: &Item) -> Result<(), TypeFault>
         requires { self.old.total ≤ MAX_WEIGHT }
         ensures reached { (env : Env) → StandsFor self.old.values env

@@ -1,4 +1,4 @@
-//! The values of definitions.
+//! Stored values of definitions.
 
 ghost use Rattle.std.specs.Prelude.{◌≡◌, ◌+◌, ◌<◌, ◌≤◌, IfOk, IfErr, OnOk};
 ghost use Rattle.c2po_ast.specs.Shape.{shape, shapes};
@@ -19,7 +19,8 @@ use mltl_base::List;
 use std::alloc::Global;
 
 impl Unfolding {
-    /// Stores the value of an expression: each part of a struct's value or of a set, and the summary of an operator.
+    /// Stores the value of an expression: each part of a struct's value or of a set, and the
+    /// summary of an operator.
     #[cycle(storing)]
     pub(crate) fn store(
         &mut self,
@@ -59,7 +60,7 @@ impl Unfolding {
         }
     }
 
-    /// Stores the values of expressions in order, and returns them with their weight and one more.
+    /// Stores the values of expressions in order, and returns them with their weight plus 1.
     #[cycle(storing)]
     fn store_all(
         &mut self,

@@ -1,4 +1,4 @@
-//! Summaries of values: the weight, and the fact.
+//! Summaries of values.
 
 ghost use Rattle.std.specs.Prelude.{◌≡◌, ◌+◌, ◌<◌, ◌≤◌, ◌^◌, ℕ, [], ◌∷◌, Some, IfOk, IfErr};
 ghost use Rattle.mltl_base.specs.declared.operators.CountOp.{CountOp};
@@ -16,7 +16,7 @@ use crate::fact::Fact;
 use crate::operators::{BinaryOp, UnaryOp};
 use crate::room::Room;
 
-/// The summary of a value: its weight, and its fact.
+/// The summary of a value: its weight and its fact.
 #[derive(Clone, Copy)]
 pub struct Summary {
     pub weight: u32,
@@ -24,7 +24,7 @@ pub struct Summary {
 }
 
 impl Summary {
-    /// Returns the summary of a number or of a Boolean, which weighs one.
+    /// Returns the summary of a number or a Boolean, which weighs 1.
     pub(crate) fn token(fact: Fact, room: Room) -> Result<Summary, UnfoldFault>
         ensures light { IfOk result (λ s. s.weight ≤ room) }
         ensures holds { (l : Leaf) → leaf_weight l ≡ 1 → Tells fact (Some (leaf_tree l))
@@ -35,7 +35,7 @@ impl Summary {
         Ok(Summary { weight: 1, fact })
     }
 
-    /// Returns the summary of a quantifier over no member, which is false and weighs nothing.
+    /// Returns the summary of a quantifier over the empty set, which is false and weighs nothing.
     pub(crate) fn none() -> Summary
         ensures weight { result.weight ≡ 0 }
         ensures joined { (op : LogicOp) → IsSummary result (connected_all op []) }

@@ -28,8 +28,8 @@ use crate::{UnfoldFault, Unfolding};
 use c2po_ast::Expr;
 use mltl_base::{CountOp, LogicOp};
 
-/// The bodies of a quantifier together: their number, the fact of their formulas from the last to the first, and the
-/// room that they leave.
+/// The bodies of a quantifier together: their number, the fact of their disjunction from the last
+/// to the first, and the room that they leave.
 #[derive(Clone, Copy)]
 pub(crate) struct Gathered {
     count: usize,
@@ -37,7 +37,7 @@ pub(crate) struct Gathered {
     left: Room,
 }
 
-/// Returns the stored value that a head is, if it is one.
+/// Returns the stored value of a head, if the head is one.
 fn held_in(head: &Head<'_>) -> Option<Stored>
     ensures { (s : Stored) → result ≡ Some s → head.now ≡ Held s }
 {
@@ -47,7 +47,7 @@ fn held_in(head: &Head<'_>) -> Option<Stored>
     }
 }
 
-/// The summary of a quantifier's body, with the stored value that its variable was, if it was one.
+/// The summary of a quantifier's body, and the value of its variable, if that is a stored value.
 #[derive(Clone, Copy)]
 pub(crate) struct BodyFact {
     member: Option<Stored>,
@@ -55,7 +55,7 @@ pub(crate) struct BodyFact {
 }
 
 impl BodyFact {
-    /// Makes one of no stored value.
+    /// Makes the summary of a body whose variable isn't a stored value.
     fn none() -> BodyFact
         ensures { result.member ≡ None }
     {
@@ -65,7 +65,7 @@ impl BodyFact {
         }
     }
 
-    /// Returns `true` if the variable was this head.
+    /// Returns `true` if the value of the variable is this head, a stored value.
     fn is_of(&self, head: &Head<'_>) -> bool
         ensures { result ≡ true
             → (s : Stored) × (self.now.member ≡ Some s) × (head.now ≡ Held s) }
@@ -136,7 +136,8 @@ impl Unfolding {
         }
     }
 
-    /// Returns the summary of a struct's value or a set with these parts, which weighs one more than they do.
+    /// Returns the summary of a struct's value or a set with these parts, which weighs 1 more than
+    /// its parts.
     #[cycle(summing)]
     fn parts_summary(&self, at: Site<'_>, es: &[Expr], room: Room) -> Result<Summary, UnfoldFault>
         ensures light { IfOk result (λ s. s.weight ≤ room) }
@@ -225,7 +226,8 @@ impl Unfolding {
         Ok(Summary::over_two(op, &a, &b))
     }
 
-    /// Returns the summary of the bodies of a quantifier, one for each member of its set, joined by an operator.
+    /// Returns the summary of the bodies of a quantifier, one for each member of its set, joined by
+    /// an operator.
     #[cycle(summing)]
     fn joined_bodies(
         &self,
@@ -258,8 +260,8 @@ impl Unfolding {
         Ok(all)
     }
 
-    /// Returns the summary of the body of a quantifier for member `i` of its set: the last one, if the member is the same
-    /// stored value.
+    /// Returns the summary of the body of a quantifier for member `i` of its set: the last summary,
+    /// if the member is the same stored value.
     #[cycle(summing)]
     fn body(
         &self,
@@ -298,7 +300,8 @@ impl Unfolding {
         Ok(BodyFact { member, summary })
     }
 
-    /// Returns the summary of a counting quantifier over its bodies, one for each member of its set.
+    /// Returns the summary of a counting quantifier over its bodies, one for each member of its
+    /// set.
     #[cycle(summing)]
     fn counted_bodies(
         &self,

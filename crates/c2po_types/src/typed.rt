@@ -38,7 +38,7 @@ impl Model for TypedSpec {
 }
 
 impl TypedSpec {
-    /// The specification of a tree without a fault, with its signals.
+    /// Makes the specification of a tree without a fault and of its signals.
     pub(crate) fn of(tree: SpecTree, signals: List<Signal>) -> TypedSpec
         requires faultless { first_fault (spec_shape tree) ≡ None }
         requires plain { ArePlainItems (spec_shape tree) }
@@ -48,7 +48,7 @@ impl TypedSpec {
         TypedSpec { tree, signals }
     }
 
-    /// The tree, which has no fault.
+    /// Returns the tree, which has no fault.
     pub fn tree(&self) -> &SpecTree
         ensures tree { result.now ≡ self.now }
         ensures faultless { first_fault (spec_shape self.now) ≡ None }
@@ -57,7 +57,7 @@ impl TypedSpec {
         &self.tree
     }
 
-    /// Returns the signals in the order of declaration, which have distinct names.
+    /// Returns the signals, which have distinct names, in the order of declaration.
     pub fn signals(&self) -> &List<Signal>
         ensures signals { result.now ≡ signals_of (spec_shape self.now) }
         ensures named { HaveOwnNames result.now }

@@ -30,7 +30,8 @@ impl From<AllocError> for UnfoldFault {
     }
 }
 
-/// Counts one more level of nesting. The program's stack ends long before this number does.
+/// Returns the number of levels that are left within one more level. The stack ends long before the
+/// levels do.
 #[inline(always)]
 pub(crate) fn deeper(levels: u32) -> Result<u32, UnfoldFault>
     ensures left { IfOk result (λ left. left + 1 ≡ levels) }

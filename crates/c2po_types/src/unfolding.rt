@@ -26,10 +26,11 @@ use c2po_ast::Expr;
 use mltl_base::{List, Name, NoRange};
 use std::alloc::{AllocError, Global};
 
-/// The levels that an expression may be nested in: more than any stack has.
+/// The number of levels that expressions may nest: more than any stack has.
 const DEPTH: u32 = u32::MAX;
 
-/// The number of values stored last that a new one is compared with. Members of a fleet have fewer parts.
+/// The number of recently stored values that a new value is compared with. Members of a fleet have
+/// fewer parts.
 const RECENT: usize = 16;
 
 /// The meanings of the names of a specification, with the summaries of their values.
@@ -51,7 +52,7 @@ pub struct Weighed {
 }
 
 impl Unfolding {
-    /// Makes an unfolding without names. It does not allocate.
+    /// Makes an unfolding without names. Doesn't allocate.
     pub fn new(alloc: Global) -> Unfolding
         ensures { StandsFor result no_names }
     {
@@ -63,7 +64,7 @@ impl Unfolding {
         }
     }
 
-    /// Declares a struct with its fields in order. A name that is known keeps its meaning.
+    /// Declares a struct with its fields in order. A known name keeps its meaning.
     pub fn add_struct(
         &mut self,
         alloc: Global,
@@ -80,7 +81,7 @@ impl Unfolding {
         Ok(())
     }
 
-    /// Declares a signal of kind bool or int, whatever its number. A name that is known keeps its meaning.
+    /// Declares a Boolean or an integer signal, with any number. A known name keeps its meaning.
     pub fn add_signal(&mut self, alloc: Global, name: &Name, truth: bool) -> Result<(), AllocError>
         ensures { (env : Env) (number : ℕ) → StandsFor self.old env
             → OnOk result
@@ -94,9 +95,9 @@ impl Unfolding {
         Ok(())
     }
 
-    /// Declares a name for the value of an expression. A known name keeps its meaning.
-    /// Returns the first fault of the value's integers, and `Heavy` exactly if the value's weight is above the
-    /// room.
+    /// Declares a name for the value of an expression, and returns the first fault of the value's
+    /// integers, or `Heavy` exactly if the value's weight is above the room. A known name keeps its
+    /// meaning.
     pub fn define(
         &mut self,
         alloc: Global,
@@ -124,8 +125,8 @@ impl Unfolding {
         Ok(stored.fault)
     }
 
-    /// Returns the weight, the first fault and the tenses of an expression's formula, and `Heavy` exactly if its weight is
-    /// above the room.
+    /// Returns the weight, the first fault and the tenses of an expression's formula, or `Heavy`
+    /// exactly if its weight is above the room.
     pub fn weigh(&mut self, alloc: Global, e: &Expr, room: u32) -> Result<Weighed, UnfoldFault>
         requires { room ≤ MAX_WEIGHT }
         ensures stands { (env : Env) → StandsFor self.old env
@@ -178,8 +179,8 @@ impl Unfolding {
         })
     }
 
-    /// Stores a fact, and returns its place. A fact that was stored just before keeps its place, so that values that are
-    /// alike are the same.
+    /// Stores a fact, and returns its place. A fact that was stored recently keeps its place, so
+    /// that equal values are stored as the same value.
     fn fact_place(&mut self, fact: Fact) -> Result<u32, AllocError>
         ensures later { OnOk result (IsLater self.old self.new) }
         ensures there { IfOk result (λ place. slice_get self.new.facts place ≡ Some fact) }
@@ -192,7 +193,7 @@ impl Unfolding {
         Ok(place)
     }
 
-    /// Finds a fact among the facts that were stored last, and returns its index.
+    /// Returns the index of a fact, if it is among the facts stored last.
     fn recent_fact(&self, fact: &Fact) -> Option<usize>
         ensures { IfSome result (λ i. slice_get self.now.facts i ≡ Some fact.now) }
     {
@@ -229,7 +230,7 @@ impl Unfolding {
         })
     }
 
-    /// Stores parts, and returns their place. Parts that were stored just before keep their place.
+    /// Stores parts, and returns their place. Parts that were stored recently keep their place.
     fn parts_place(&mut self, whole: Whole, members: List<Stored>) -> Result<u32, AllocError>
         ensures later { OnOk result (IsLater self.old self.new) }
         ensures there { IfOk result (λ place. slice_get self.new.parts place
@@ -243,7 +244,7 @@ impl Unfolding {
         Ok(place)
     }
 
-    /// Finds parts among the parts that were stored last, and returns their index.
+    /// Returns the index of parts, if they are among the parts stored last.
     fn recent_parts(&self, whole: &Whole, members: &[Stored]) -> Option<usize>
         ensures { IfSome result (λ i. slice_get self.now.parts i
             ≡ Some (record { whole = whole.now; members = members.now })) }
@@ -268,7 +269,7 @@ fn first_of(members: &[Stored]) -> Option<NoRange>
     }
 }
 
-/// Returns an index as a number of 32 bits. Fails from 2^32 on, as if memory were out.
+/// Returns an index as a number of 32 bits. An index of 2^32 or more fails as if out of memory.
 pub(crate) fn next_place(len: usize) -> Result<u32, AllocError>
     ensures { IfOk result (λ place. place ≡ len) }
 {

@@ -4,14 +4,15 @@ ghost use Rattle.std.specs.Prelude.{◌≡◌, true};
 
 use mltl_base::{List, Name, NoRange};
 
-/// The place of a stored value: the fact of an integer or a formula, or the parts of a struct's value or of a set.
+/// The place of a stored value: the fact of an integer or a formula, or the parts of a struct's
+/// value or of a set.
 #[derive(Clone, Copy)]
 pub enum Location {
     Leaf(u32),
     Parts(u32),
 }
 
-/// A stored value with its weight, and with the first fault of its integers.
+/// A stored value: its place, its weight, and the first fault of its integers.
 #[derive(Clone, Copy)]
 pub struct Stored {
     pub location: Location,
@@ -20,7 +21,7 @@ pub struct Stored {
 }
 
 impl Location {
-    /// Returns `true` if this is the same place.
+    /// Returns `true` if both are the same place.
     #[inline(always)]
     fn is(self, other: Location) -> bool
         ensures { result ≡ true → self ≡ other }
@@ -34,7 +35,7 @@ impl Location {
 }
 
 impl Stored {
-    /// Returns `true` if this is the same stored value, and has no fault.
+    /// Returns `true` if both are the same stored value, without a fault.
     #[inline(always)]
     pub(crate) fn is(self, other: Stored) -> bool
         ensures { result ≡ true → self ≡ other }
@@ -46,7 +47,7 @@ impl Stored {
     }
 }
 
-/// The whole that parts belong to.
+/// The sort of a value that has parts: a struct's value, or a set.
 #[derive(Drop)]
 pub enum Whole {
     Struct(Name),
@@ -75,7 +76,7 @@ impl Whole {
 }
 
 impl Parts {
-    /// Returns `true` if these are the same parts, and have no fault.
+    /// Returns `true` if these are the same parts, without a fault.
     pub(crate) fn are(&self, whole: &Whole, members: &[Stored]) -> bool
         ensures whole { result ≡ true → self.now.whole ≡ whole.now }
         ensures members { result ≡ true → self.now.members ≡ members.now }
@@ -84,7 +85,7 @@ impl Parts {
     }
 }
 
-/// Returns `true` if these are the same stored values in order, and have no fault.
+/// Returns `true` if both lists have the same stored values in order, without a fault.
 fn are_same(own: &[Stored], others: &[Stored]) -> bool
     ensures { result ≡ true → own.now ≡ others.now }
 {

@@ -1,4 +1,4 @@
-//! Variables of quantifiers, which are members of sets that aren't unfolded yet.
+//! Variables of quantifiers, whose values are members of sets.
 
 ghost use Rattle.c2po_types.specs.declared.unfolding.Unfolding.{Unfolding};
 ghost use Rattle.c2po_types.specs.Environment.{Env, bind};
@@ -14,14 +14,14 @@ use mltl_base::Name;
 #[derive(Clone, Copy)]
 pub enum Scope<'a> {
     Top,
-    /// The variable is an expression, which has a separate scope.
+    /// The variable's value is an expression in a scope of its own.
     Open {
         name: &'a Name,
         expr: &'a Expr,
         within: &'a Scope<'a>,
         outer: &'a Scope<'a>,
     },
-    /// The variable is a stored value.
+    /// The variable's value is a stored value.
     Held {
         name: &'a Name,
         stored: Stored,
@@ -29,7 +29,8 @@ pub enum Scope<'a> {
     },
 }
 
-/// The place of an expression: the variables around it, and the levels that may still be nested in it.
+/// The place of an expression: the variables around it, and the number of levels that may nest in
+/// it.
 #[derive(Clone, Copy)]
 pub struct Site<'a> {
     pub depth: u32,
@@ -46,7 +47,8 @@ pub enum Named<'a> {
     Held(Stored),
 }
 
-/// The head of a value: the value without its parts, after names and picked fields were followed.
+/// The head of an expression's value, after names and picked fields are followed. Its parts aren't
+/// visited.
 #[derive(Clone, Copy)]
 pub enum Head<'a> {
     /// A name without a value.
@@ -61,7 +63,8 @@ pub enum Head<'a> {
 }
 
 impl<'a> Scope<'a> {
-    /// Binds a variable to a value by its head, which is found once however often the variable is used.
+    /// Returns the scope in which a variable has the value of a head. The head is found once,
+    /// however often the variable is used.
     pub(crate) fn bound(name: &'a Name, head: Head<'a>, outer: &'a Scope<'a>) -> Scope<'a>
         ensures { (u : Unfolding) (env : Env) (v : Value) → Fits u outer.now env
             → Heads u head.entry v → Fits u result (bind name.now v env) }
