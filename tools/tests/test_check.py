@@ -4,6 +4,9 @@ import json
 import random
 import subprocess
 
+from hypothesis import given, settings
+from hypothesis import strategies as st
+from hypothesis_specs import HEAD
 from random_specs import INPUTS, spec as random_spec
 from support import ROOT, Case, program, tool
 from r2u2tools.check import grammar, notes, report
@@ -13,6 +16,8 @@ from r2u2tools.check.source import read
 
 EXAMPLES = sorted((ROOT / "examples").glob("**/*.c2po"))
 PRELUDE = "STRUCT Unit: { load: int; off: bool; };\nINPUT p, q: bool; x, y: int;\nDEFINE u := Unit(x, p);\n"
+# What may stand between tokens.
+GAPS = ("", " ", " ", "  ", "\t", "\n", "\n\n\n", "\r\n", "-- c\n", " -- c\n", "\n  --c  \n", "--c\r\n", "--c\n--d\n", " \n ")
 # A line below the prelude, in which ^ marks the token at fault, and the message.
 PLACES = [
     ("FTSPEC f: p && ^zz;", "unknown name 'zz'"),
@@ -223,6 +228,26 @@ class Layout(Case):
             new = laid_out(text)
             self.assertEqual(laid_out(new), new)
             self.assertEqual([it.text for it in read(text).tokens], [it.text for it in read(new).tokens])
+
+    def test_comments_and_line_ends_anywhere(self):
+        """Whatever stands between tokens, the layout of a layout is the layout, and tokens and comments stay."""
+        texts = [path.read_text() for path in EXAMPLES] + [HEAD]
+
+        @settings(max_examples=300, derandomize=True, database=None, deadline=None)
+        @given(st.data())
+        def holds(data):
+            source = read(data.draw(st.sampled_from(texts)))
+            first = data.draw(st.integers(0, len(source.tokens) - 1))
+            kept = [token.text for token in source.tokens[first : first + 30]]
+            gaps = [data.draw(st.sampled_from(GAPS)) for _ in kept]
+            text = "".join(gap + word for gap, word in zip(gaps, kept))
+            new = laid_out(text)
+            self.assertEqual(laid_out(new), new, text)
+            for part in ("tokens", "comments"):
+                before, after = ([it.text.rstrip() for it in getattr(read(it), part)] for it in (text, new))
+                self.assertEqual(before, after)
+
+        holds()
 
     def test_what_it_sets(self):
         given = (

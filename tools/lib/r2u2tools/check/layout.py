@@ -4,6 +4,7 @@ Lines stay where the author broke them. What is set is the blanks between tokens
 how far items are indented, and empty lines: one at most, and none at either end.
 """
 
+import re
 from typing import List, Optional, Union
 
 from r2u2tools.check.source import QUANTIFIERS, Comment, Source, Token, read
@@ -12,6 +13,8 @@ from r2u2tools.common.specs import SECTIONS, TOKEN
 ITEM, MORE, FIELD = 2, 4, 4
 OPENING, CLOSING = ("(", "[", "{"), (")", "]", "}")
 TEMPORAL = tuple("FGURSOH")
+# What makes a brace one with blanks inside; a comment has one before it in the layout.
+APART = re.compile(r"\s|--")
 Part = Union[Token, Comment]
 
 
@@ -100,7 +103,7 @@ class Layout:
         if token.text in OPENING:
             self.inner.append(before.text if token.text == "(" and before and before.text in QUANTIFIERS else token.text)
             if token.text == "{":
-                self.braces.append(self.source.text[token.end() : token.end() + 1].isspace())
+                self.braces.append(bool(APART.match(self.source.text, token.end())))
         elif token.text in CLOSING and self.inner:
             self.closed = self.inner.pop()
             if token.text == "}" and self.braces:
