@@ -1,6 +1,6 @@
 /* bytes PROGRAM..: checks of each program that r2u2_bytes returns to the byte what its monitor holds, and that arrays of
- * r2u2_open_bytes and r2u2_open_under_bytes suffice to open it, the second under each of eleven headers. Prints what the
- * arena needs: for its blocks, with what opening left free between them, and the bytes that suffice. */
+ * r2u2_open_bytes and r2u2_open_under_bytes suffice for that and to open it, the second under each of eleven headers.
+ * Prints what the arena needs: for its blocks, with what opening left free between them, and the bytes that suffice. */
 #include <stdio.h>
 
 #define r2u2_alloc arena_alloc
@@ -94,11 +94,10 @@ static bool is_told(const char *name) {
     struct r2u2_report report;
     uint64_t told = 0;
     size_t count = read_program(name);
-    r2u2_arena(memory, sizeof memory);
-    if (r2u2_bytes(program, count, &told, &fault) != R2U2_DONE || sum_of_held().blocks || program_pool.used) return false;
     size_t enough = r2u2_open_bytes(program, count);
     if (enough > sizeof memory) return false;
     r2u2_arena(memory, enough);
+    if (r2u2_bytes(program, count, &told, &fault) != R2U2_DONE || sum_of_held().blocks || program_pool.used) return false;
     if (r2u2_open(&it, program, count, &fault) != R2U2_DONE) return false;
     struct sum opened = sum_of_held();
     size_t most = program_pool.most, before = calls;

@@ -557,7 +557,6 @@ static void handed_over(void) {
     CHECK(it.at == NULL && held == 0);
 }
 
-/* The checked wrappers say of each bad argument that it is one, and else do what they wrap. */
 /* Rows by one call, behind tests: a monitor with one row and no report left stays as it is. */
 static void checked_rows(struct r2u2 *it) {
     struct r2u2_report reports[GRANT_REPORTS];
@@ -583,6 +582,7 @@ static void checked_rows(struct r2u2 *it) {
     CHECK(fault.why == R2U2_NOT_A_ROW && fault.column == 1 && reports[0].time == 0);
 }
 
+/* The checked wrappers say of each bad argument that it is one, and else do what they wrap. */
 static void wrappers(void) {
     struct r2u2 it = {0};
     struct r2u2_report report = {0};
