@@ -18,7 +18,7 @@ GRANT = examples/embed/grant.bin
 EXPECTED = examples/embed/grant.expected
 WARNED = -std=c11 -Wall -Wextra -Iinclude
 ARENA = embed/src/arena.c
-HEADERS = include/r2u2.h include/r2u2_port.h include/r2u2_checked.h include/r2u2_kept.h include/r2u2.hpp
+HEADERS = include/r2u2.h include/r2u2_port.h include/r2u2_checked.h include/r2u2.hpp
 SOURCES = embed/src/arena.c embed/src/memory.c embed/src/heap.c
 
 ifeq ($(TARGET),x86_64)

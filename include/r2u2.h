@@ -181,8 +181,8 @@ uint64_t r2u2_steps(const struct r2u2 *it);
 uint64_t r2u2_most_reports(const struct r2u2 *it);
 
 /* The calls from here to r2u2_signal change nothing, but they write to the struct while they run: it isn't const, and no
- * other call uses it meanwhile. Make them once, after opening, and keep their results: r2u2_kept.h does that for all outputs
- * and signals, in an array of yours, which any number of tasks may read. */
+ * other call uses it meanwhile. Make them once, after opening, and keep their results, as r2u2_keep_outputs and
+ * r2u2_keep_signals below do. */
 
 /* Bytes that hold each name with its zero byte. */
 #define R2U2_NAME_BYTES 65u
@@ -301,6 +301,48 @@ static inline const char *r2u2_fault_kind_text(uint32_t kind) {
                                           "output",          "size",           "too many slots", "no signals stored",
                                           "header too long", "no header",      "name missing", "name twice"};
     return r2u2_text_of(texts, sizeof texts / sizeof texts[0], kind);
+}
+
+/* COPIES OF QUERIES. What the queries by number return, in arrays of yours. They write to the struct while they run, so make the
+ * copies right after opening: any number of tasks may read them from then on, while one takes rows. They hold until the monitor
+ * is closed. */
+
+/* An output: its name, ended by a zero byte, its worst-case delay in rows, and its r2u2_output_kind. */
+struct r2u2_kept_output {
+    char name[R2U2_NAME_BYTES];
+    uint32_t delay;
+    uint32_t kind;
+};
+
+/* A signal: its name, ended by a zero byte, its column, and its r2u2_signal_kind. */
+struct r2u2_kept_signal {
+    char name[R2U2_NAME_BYTES];
+    uint32_t column;
+    uint32_t kind;
+};
+
+/* Writes the first `room` outputs of an open monitor, and returns how many there are, also if they are more. */
+static inline size_t r2u2_keep_outputs(struct r2u2 *it, struct r2u2_kept_output *kept, size_t room) {
+    size_t count = r2u2_outputs(it);
+    for (size_t k = 0; (k < count) && (k < room); k++) {
+        const struct r2u2_kept_output none = {{0}, 0u, 0u};
+        kept[k] = none;
+        kept[k].delay = r2u2_delay(it, R2U2_CAST(uint32_t, k));
+        kept[k].kind = r2u2_output_kind(it, R2U2_CAST(uint32_t, k));
+        (void)r2u2_name(it, R2U2_CAST(uint32_t, k), kept[k].name, sizeof kept[k].name);
+    }
+    return count;
+}
+
+/* Writes the first `room` signals that its program stores, and returns how many there are. */
+static inline size_t r2u2_keep_signals(struct r2u2 *it, struct r2u2_kept_signal *kept, size_t room) {
+    size_t count = r2u2_signals(it);
+    for (size_t k = 0; (k < count) && (k < room); k++) {
+        const struct r2u2_kept_signal none = {{0}, 0u, 0u};
+        kept[k] = none;
+        (void)r2u2_signal(it, R2U2_CAST(uint32_t, k), &kept[k].column, &kept[k].kind, kept[k].name, sizeof kept[k].name);
+    }
+    return count;
 }
 
 /* The sizes that the library was compiled for. */

@@ -8,7 +8,6 @@
 
 #include "faulty.h"
 #include "r2u2_checked.h"
-#include "r2u2_kept.h"
 #include "r2u2_port.h"
 
 /* The heap, which counts, and refuses the block that it is asked to refuse. */
