@@ -9,11 +9,12 @@ use Rattle.mltl_base.specs.Subformulas.{Asked, formulas_of}
 use Rattle.count_sets.specs.Counting.{compares, counting}
 use Rattle.c2po_types.specs.Values.{counted_formula}
 
--- a counting quantifier holds where the number of its bodies that hold compares as it says, equal ones each
+-- if the formula is a counting quantifier, it holds exactly when the number of its bodies that hold compares as it requires;
+-- equal bodies count separately
 abbrev pub Counts : Formula → Type 0
 Counts p = (op : CountOp) (m : ℕ) (bodies : List Formula) → p ≡ counted_formula bodies (counting op (length bodies) m)
     → (rows : List Row) (t : ℕ) → sat rows p t ≡ compares op m (count rows bodies t)
 
--- each formula of the output that is a counting quantifier does so
+-- each formula of the output that is a counting quantifier counts its bodies
 abbrev pub CountsBodies : Asked → Type 0
 CountsBodies asked = All Counts (formulas_of asked.output)

@@ -23,29 +23,29 @@ env_in names (First n) = env_of names n
 env_in names (Member' x e _ within _ outer) =
     bind x.now (value_of (shape e.now) (env_in names within)) (env_in names outer)
 
--- what a name that was looked up means
+-- the meaning that the answer of a look-up stands for
 abbrev pub named_meaning : Table Declared → Named → Known
 named_meaning names named.Nothing = nothing
 named_meaning names (named.Struct fs) = fields (map (λ f. f.name) (map field_shape fs.now))
 named_meaning names (named.Signal b n) = value (signal_value b n)
 named_meaning names (named.Open scope e made) = value (value_of (shape e.now) (env_in names scope))
 
--- the value of what was found: any value where it has none
+-- the value that the answer of a look-up stands for; `false` if it has none
 abbrev pub named_value : Table Declared → Named → Value
 named_value names found = value_in (named_meaning names found)
 
--- a name or a picked field, which leads to another expression
+-- the expression is a name or a picked field, which leads to another expression
 abbrev pub leads_on : Shape → Bool
 leads_on (tree.named line x) = true
 leads_on (tree.pick line e x) = true
 leads_on _ = false
 
--- the value of a struct, written with its parts
+-- the expression builds a struct's value from its parts
 abbrev pub is_build : Shape → Bool
 is_build (tree.build line x es) = true
 is_build _ = false
 
--- names and picked fields lead no further than this
+-- the answer isn't an expression that is a name or a picked field
 abbrev pub IsReached : Named → Type 0
 IsReached (named.Open scope e made) = leads_on (shape e.now) ≡ false
 IsReached _ = ⊤
@@ -59,18 +59,18 @@ head_value names (head.Set scope es) = grouped (values_of (shapes es.now) (env_i
 head_value names (head.Leaf scope e) = value_of (shape e.now) (env_in names scope)
 head_value names (head.Kept made scope e) = value_of (shape e.now) (env_in names scope)
 
--- what isn't a name, struct, set or picked field is an operator
+-- an expression at a head is a number, a Boolean, an operator or a quantifier
 abbrev pub IsHead : Head → Type 0
 IsHead (head.Leaf scope e) = is_operator (shape e.now) ≡ true
 IsHead (head.Kept made scope e) = is_operator (shape e.now) ≡ true
 IsHead _ = ⊤
 
--- a signal that a name leads to is among the first n
+-- if the answer is a signal, it is among the first n
 abbrev pub NamedBelow : ℕ → Named → Type 0
 NamedBelow n (named.Signal b k) = k < n
 NamedBelow n _ = ⊤
 
--- the same of a head
+-- if the head is a signal, it is among the first n
 abbrev pub HeadBelow : ℕ → Head → Type 0
 HeadBelow n (head.Signal b k) = k < n
 HeadBelow n _ = ⊤

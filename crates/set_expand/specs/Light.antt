@@ -8,11 +8,11 @@ use Rattle.c2po_types.specs.Environment.{Env, value_of}
 use Rattle.c2po_types.specs.Values.{Value}
 use Rattle.c2po_types.specs.Weights.{weight}
 
--- a value weighs no more than the limit
+-- the value weighs no more than the limit
 abbrev pub IsLight : Value → Type 0
 IsLight v = weight v ≤ MAX_WEIGHT
 
--- the value of a definition, and each value of an output, weighs no more than the limit, where names have these values
+-- if the item is a definition or an output, its values weigh no more than the limit in this environment
 abbrev pub IsLightItem : Env → BodyShape → Type 0
 IsLightItem env (structure x fs) = ⊤
 IsLightItem env (input xs t) = ⊤
@@ -20,7 +20,7 @@ IsLightItem env (define x e) = IsLight (value_of e env)
 IsLightItem env (formula engine label e) = IsLight (value_of e env)
 IsLightItem env (contract engine label e f) = IsLight (value_of e env) × IsLight (value_of f env)
 
--- the same of items one after another, from a place on
+-- the values of each item, in the environment after the items before it, weigh no more than the limit
 abbrev pub AreLight : List ItemShape → Place → Type 0
 AreLight [] p = ⊤
 AreLight (i ∷ items) p = IsLightItem p.values i.body × AreLight items (place_after i.body p)

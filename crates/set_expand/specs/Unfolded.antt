@@ -1,4 +1,4 @@
--- What is unfolded of some items: nodes, and outputs over them.
+-- The result of unfolding some items: nodes, and outputs over them.
 
 use Rattle.std.specs.Prelude.{◌≡◌, ◌+◌, List, ◌++◌, Result, length, map, All, IfOk}
 use Rattle.mltl_base.specs.Subformulas.{Asked}
@@ -14,12 +14,12 @@ use Rattle.set_expand.specs.Light.{AreLight}
 use Rattle.set_expand.specs.Names.{SignalsBelow, env_now}
 use Rattle.set_expand.specs.Nodes.{HaveNodes}
 
--- outputs over nodes name formulas, and ask for these
+-- the outputs name formulas among the nodes, and are these outputs of the specification
 pub record AskFor (nodes : List Plain) (outs : List PlainOut) (told : List Asked) : Type 0 where
   pub formulas : All (NamesFormulas (trees nodes)) outs
   pub asked : map (asked_by (trees nodes)) outs ≡ told
 
--- what is unfolded represents what is known at a place, and its outputs are these
+-- the result of unfolding represents the state at a place, is sound, and has these outputs
 pub record StandsAt (u : Unfolded) (place : Place) (told : List Asked) : Type 0 where
   pub values : env_now u.names ≡ place.values
   pub numbered : u.signals ≡ place.signals
@@ -29,13 +29,13 @@ pub record StandsAt (u : Unfolded) (place : Place) (told : List Asked) : Type 0 
   pub sound : AreSound u.signals u.nodes
   pub asked : AskFor u.nodes u.outs told
 
--- where an item is added to what is known at a place, the result represents what is known after the item, and its
--- outputs are those of before and the item's
+-- if the old result represents the state at a place, the new one represents the state after the item, with the item's
+-- outputs after the old ones
 abbrev pub Puts : {E : Type 0} → BodyShape → Unfolded → Result Unfolded E → Type 0
 Puts body old result = (place : Place) (told : List Asked) → StandsAt old place told
     → IfOk result (λ new. StandsAt new (place_after body place) (told ++ asked_at body place))
 
--- of all items, these are left to be unfolded, each of which is light
+-- the items in `left` are still to be unfolded, their outputs complete the outputs of all items, and each is light
 pub record Leaves (u : Unfolded) (left all : List ItemShape) : Type 0 where
   pub place : Place
   pub told : List Asked

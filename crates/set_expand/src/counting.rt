@@ -17,7 +17,7 @@ use mltl_base::{CountOp, LogicOp};
 use std::alloc::{AllocError, Global};
 
 impl<'a> Names<'a> {
-    /// The node of a counting quantifier over the nodes of its bodies.
+    /// Adds the node of a counting quantifier over the nodes of its bodies, and returns its index.
     pub(crate) fn gates(
         &self,
         nodes: &mut NodeList,
@@ -40,7 +40,8 @@ impl<'a> Names<'a> {
         self.splice(nodes, alloc, gates.as_slice(), bodies)
     }
 
-    /// The node of the last gate, over the nodes of the bodies.
+    /// Adds the nodes of gates over the nodes of the bodies, and returns the index of the last
+    /// gate's node.
     fn splice(
         &self,
         nodes: &mut NodeList,
@@ -64,7 +65,8 @@ impl<'a> Names<'a> {
         Ok(places[gates.len() - 1])
     }
 
-    /// The node of a gate, over the nodes of the bodies and of the gates before it.
+    /// Returns the index of a gate's node, which is added over the nodes of the bodies and the
+    /// earlier gates.
     fn gate(
         &self,
         nodes: &mut NodeList,

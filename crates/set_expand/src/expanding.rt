@@ -23,7 +23,7 @@ use c2po_ast::{Expanded, Item};
 use c2po_types::TypedSpec;
 use std::alloc::{AllocError, Global};
 
-/// What is known after all items.
+/// Returns the names and the outputs after all items.
 fn unfold_all<'a>(alloc: Global, items: &'a [Item]) -> Result<Unfolded<'a>, AllocError>
     requires { first_fault (map item_shape items.now) ≡ None }
     ensures { IfOk result (λ u. Leaves u [] (map item_shape items.now)) }
@@ -37,9 +37,9 @@ fn unfold_all<'a>(alloc: Global, items: &'a [Item]) -> Result<Unfolded<'a>, Allo
     Ok(unfolded)
 }
 
-/// Returns the outputs of a specification as nodes, operands before the nodes that use them. Only what an output uses is
-/// unfolded. Signals are numbered in the order of declaration, and an output without a label has the decimal text of
-/// its number as its name, counted from 0.
+/// Returns the outputs of a specification as nodes, operands before the nodes that use them. Only
+/// expressions that an output uses are unfolded. Signals are numbered in the order of declaration.
+/// The name of an output without a label is the decimal text of its number, counted from 0.
 ///
 /// Errors: out of memory.
 pub fn expand(alloc: Global, spec: &TypedSpec) -> Result<Expanded, AllocError>
@@ -48,13 +48,13 @@ pub fn expand(alloc: Global, spec: &TypedSpec) -> Result<Expanded, AllocError>
     ensures sound { IfOk result
         (λ expanded. IsSound expanded (length (signals_of (spec_shape spec.now)))) }
 
-    // What the check of the specification promises of its outputs.
+    // The check of the specification has shown this of its outputs.
     ensures ranged { IfOk result (λ expanded. All HasRanges (asked expanded)) }
     ensures kinds { IfOk result (λ expanded.
         All (ReadsSignals (kinds_of (signals_of (spec_shape spec.now)))) (asked expanded)) }
     ensures named { IfOk result (λ expanded. All HasPlainName (asked expanded)) }
 
-    // A counting quantifier that is unfolded counts its bodies, equal ones each.
+    // An unfolded counting quantifier counts its bodies. Equal bodies count separately.
     ensures counted { IfOk result (λ expanded. All CountsBodies (asked expanded)) }
     ensures counting { (op : Op) (m : ℕ) (bodies : Seq Formula) (rows : Seq Row) (t : ℕ)
         → sat rows (counted_formula bodies (counting op (length bodies) m)) t

@@ -23,7 +23,7 @@ use mltl_base::{CountOp, LogicOp};
 use std::alloc::AllocError;
 
 impl<'a> Names<'a> {
-    /// The node of an expression.
+    /// Adds the node of an expression, and returns it.
     #[cycle(unfolding)]
     pub(crate) fn made(
         &self,
@@ -64,7 +64,7 @@ impl<'a> Names<'a> {
         }
     }
 
-    /// The node of a number, a Boolean, an operator or a quantifier.
+    /// Adds the node of a number, a Boolean, an operator or a quantifier, and returns it.
     #[cycle(unfolding)]
     fn operator(&self, nodes: &mut NodeList, at: Site<'_>, e: &Expr) -> Result<Made, AllocError>
         requires operator { is_operator (shape e.now) ≡ true }
@@ -96,7 +96,8 @@ impl<'a> Names<'a> {
         }
     }
 
-    /// A node with the integer of an expression; any integer where its value is of another kind.
+    /// Returns the index of a node with the integer of an expression, or with 0 if its value has
+    /// another kind.
     #[cycle(unfolding)]
     fn number(&self, nodes: &mut NodeList, at: Site<'_>, e: &Expr) -> Result<u32, AllocError>
         requires light { IsLight (value_of (shape e.now) (env_in self.now at.scope.now)) }
@@ -114,7 +115,8 @@ impl<'a> Names<'a> {
         }
     }
 
-    /// A node with the formula of an expression; any node where its value is of another kind.
+    /// Returns the index of a node with the formula of an expression, or with `false` if its value
+    /// has another kind.
     #[cycle(unfolding)]
     pub(crate) fn formula(
         &self,
@@ -137,7 +139,7 @@ impl<'a> Names<'a> {
         }
     }
 
-    /// The node of an operator over one operand.
+    /// Adds the node of an operator over one operand, and returns it.
     #[cycle(unfolding)]
     fn unary(
         &self,
@@ -171,7 +173,7 @@ impl<'a> Names<'a> {
         }
     }
 
-    /// The node of an operator over two operands.
+    /// Adds the node of an operator over two operands, and returns it.
     #[cycle(unfolding)]
     fn binary(
         &self,
@@ -214,7 +216,7 @@ impl<'a> Names<'a> {
         }
     }
 
-    /// Nodes with the integers of two expressions.
+    /// Returns the indices of nodes with the integers of two expressions.
     #[cycle(unfolding)]
     fn numbers(
         &self,
@@ -237,7 +239,7 @@ impl<'a> Names<'a> {
         Ok((left, right))
     }
 
-    /// Nodes with the formulas of two expressions.
+    /// Returns the indices of nodes with the formulas of two expressions.
     #[cycle(unfolding)]
     fn formulas(
         &self,
@@ -260,7 +262,8 @@ impl<'a> Names<'a> {
         Ok((left, right))
     }
 
-    /// The node of a quantifier's body where its variable is member `i` of its set.
+    /// Returns the index of the node of a quantifier's body when its variable is member `i` of its
+    /// set.
     #[cycle(unfolding)]
     fn body(
         &self,
@@ -288,7 +291,8 @@ impl<'a> Names<'a> {
         self.formula(nodes, within, bodies.body)
     }
 
-    /// The node of a quantifier's bodies, one for each member of its set, joined by an operator.
+    /// Returns the index of the node that joins a quantifier's bodies, one for each member of its
+    /// set, by an operator.
     #[cycle(unfolding)]
     fn joined(
         &self,
@@ -318,7 +322,8 @@ impl<'a> Names<'a> {
         Ok(all)
     }
 
-    /// The node of a counting quantifier over its bodies, one for each member of its set.
+    /// Returns the index of the node of a counting quantifier over its bodies, one for each member
+    /// of its set.
     #[cycle(unfolding)]
     fn counted(
         &self,
@@ -345,7 +350,7 @@ impl<'a> Names<'a> {
         Ok(node)
     }
 
-    /// The nodes of a quantifier's bodies, one for each member of its set.
+    /// Returns the indices of the nodes of a quantifier's bodies, one for each member of its set.
     #[cycle(unfolding)]
     fn body_nodes(
         &self,

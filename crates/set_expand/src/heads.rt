@@ -1,4 +1,4 @@
-//! What names and picked fields lead to, without a look at what they leave aside.
+//! The values that names and picked fields lead to. Parts that aren't picked aren't visited.
 
 ghost use Rattle.std.specs.Prelude.{◌≡◌, ◌+◌, ℕ, true, false, List as Seq, Some, None, length, position, slice_get, IfOk, IfSome};
 ghost use Rattle.std.specs.Str.{bytes_eq};
@@ -17,14 +17,15 @@ use c2po_ast::{Expr, Node};
 use mltl_base::Name;
 use std::alloc::AllocError;
 
-/// The number of levels that may be nested within one more level. The program's stack ends long before this number.
+/// Returns the number of levels that are left within one more level. The stack ends long before the
+/// levels do.
 pub(crate) fn deeper(levels: u32) -> Result<u32, AllocError>
     ensures { IfOk result (λ left. left + 1 ≡ levels) }
 {
     levels.checked_sub(1).ok_or(AllocError)
 }
 
-/// Whether an expression is a number, a Boolean, an operator or a quantifier.
+/// Returns `true` if an expression is a number, a Boolean, an operator or a quantifier.
 pub(crate) fn is_operator(e: &Expr) -> bool
     ensures { result ≡ is_operator (shape e.now) }
 {
@@ -34,7 +35,7 @@ pub(crate) fn is_operator(e: &Expr) -> bool
     }
 }
 
-/// Whether an expression is a name or a picked field, which lead to another expression.
+/// Returns `true` if an expression is a name or a picked field, which lead to another expression.
 fn leads_on(e: &Expr) -> bool
     ensures { result ≡ leads_on (shape e.now) }
 {
@@ -44,7 +45,7 @@ fn leads_on(e: &Expr) -> bool
     }
 }
 
-/// The name and the parts of a struct's value that is written with them.
+/// Returns the name and the parts of an expression that builds a struct's value.
 fn built_parts<'b>(e: &'b Expr) -> Option<(&'b Name, &'b [Expr])>
     ensures built { IfSome result (λ r. (env : Env) → value_of (shape e.now) env
         ≡ built r.0.now (values_of (shapes r.1.now) env)) }
@@ -56,7 +57,7 @@ fn built_parts<'b>(e: &'b Expr) -> Option<(&'b Name, &'b [Expr])>
     }
 }
 
-/// Whether a name or a picked field leads no further than this.
+/// Returns `true` if this is neither a name nor a picked field.
 fn is_reached(found: &Named<'_>) -> bool
     ensures { result ≡ true → IsReached found.now }
 {
@@ -67,7 +68,8 @@ fn is_reached(found: &Named<'_>) -> bool
 }
 
 impl<'a> Names<'a> {
-    /// The meaning of a name: the innermost variable of that name, else what is declared.
+    /// Returns the meaning of a name: the innermost variable with this name, else the declared
+    /// meaning.
     fn look<'b>(&self, scope: &Scope<'b>, name: &Name) -> Named<'b>
     where
         'a: 'b,
@@ -93,7 +95,7 @@ impl<'a> Names<'a> {
         }
     }
 
-    /// The place of a field among those of a struct.
+    /// Returns the place of a field among the fields of a struct.
     fn field_place(&self, scope: &Scope<'_>, whole: &Name, field: &Name) -> Option<usize>
         ensures { result ≡ position (bytes_eq field.now)
             (fields_in (env_in self.now scope.now whole.now)) }
@@ -110,7 +112,7 @@ impl<'a> Names<'a> {
         }
     }
 
-    /// What an expression leads to: names and picked fields are followed one after another.
+    /// Follows an expression through names and picked fields to the meaning that it leads to.
     #[cycle(heading)]
     pub(crate) fn follow<'b>(
         &self,
@@ -138,7 +140,7 @@ impl<'a> Names<'a> {
         Err(AllocError)
     }
 
-    /// What a name means, or the part that a picked field names; another expression is what it leads to.
+    /// Follows one name or picked field. Another expression leads to itself.
     #[cycle(heading)]
     fn step<'b>(&self, levels: u32, found: Named<'b>) -> Result<Named<'b>, AllocError>
     where
@@ -163,7 +165,7 @@ impl<'a> Names<'a> {
         }
     }
 
-    /// The part that a field names; what has no such part is its own.
+    /// Returns the part that a field names, or the whole itself if it has no such part.
     fn part<'b>(&self, scope: &Scope<'b>, whole: Named<'b>, field: &Name) -> Named<'b>
     where
         'a: 'b,
@@ -191,7 +193,7 @@ impl<'a> Names<'a> {
         }
     }
 
-    /// What an expression leads to, as a value that is looked at.
+    /// Returns the head of the value that an expression leads to.
     pub(crate) fn head<'b>(
         &self,
         levels: u32,
@@ -211,7 +213,7 @@ impl<'a> Names<'a> {
         Ok(self.head_of(found))
     }
 
-    /// What was reached, as a value that is looked at.
+    /// Returns the head of a meaning that leads no further.
     fn head_of<'b>(&self, found: Named<'b>) -> Head<'b>
     where
         'a: 'b,
@@ -236,7 +238,7 @@ impl<'a> Names<'a> {
         }
     }
 
-    /// The number of members of a set; nothing else has any.
+    /// Returns the number of members of a set, or 0 for any other value.
     pub(crate) fn member_count(&self, set: &Head<'_>) -> usize
         requires { IsHead set.now }
         ensures { result ≡ length (members (head_value self.now set.now)) }
@@ -248,7 +250,7 @@ impl<'a> Names<'a> {
         }
     }
 
-    /// The scope in which a variable is member `i` of a set.
+    /// Returns the scope in which a variable is member `i` of a set.
     pub(crate) fn member_scope<'b>(
         &self,
         scope: &'b Scope<'b>,

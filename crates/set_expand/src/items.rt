@@ -1,4 +1,4 @@
-//! Items one after another: the meanings of names, and the outputs.
+//! The unfolding of items one after another: the meanings of names, and the outputs.
 
 ghost use Rattle.std.specs.Prelude.{◌≡◌, ◌≤◌, ◌++◌, ◌+◌, [], List as Seq, length, map, IfOk, OnOk};
 ghost use Rattle.mltl_base.specs.declared.limits.TheConstants.{MAX_SIGNALS};
@@ -23,10 +23,11 @@ use c2po_types::names::output_name;
 use mltl_base::{Engine, List, Name};
 use std::alloc::{AllocError, Global};
 
-/// How deep an expression may be nested: deeper than any stack is.
+/// The number of levels that expressions may nest: more than any stack has.
 const DEPTH: u32 = u32::MAX;
 
-/// What is known after some items: the names, the number of signals, and the outputs over their nodes.
+/// The result of unfolding some items: the names, the number of signals, and the outputs over their
+/// nodes.
 #[derive(Drop)]
 pub struct Unfolded<'a> {
     pub names: Names<'a>,
@@ -35,7 +36,7 @@ pub struct Unfolded<'a> {
     pub outs: List<PlainOut>,
 }
 
-/// Whether a type is Boolean.
+/// Returns `true` if a type is Boolean.
 fn is_bool(tree: &TypeTree) -> bool
     ensures { result ≡ is_bool (type_shape tree.now) }
 {
@@ -46,7 +47,8 @@ fn is_bool(tree: &TypeTree) -> bool
 }
 
 impl<'a> Names<'a> {
-    /// The names with signals of one type from a number on, and the number after these.
+    /// Adds signals of one type, numbered from `from` on, and returns the names with the number of
+    /// the next signal.
     fn with_signals(
         self,
         alloc: Global,
@@ -71,7 +73,7 @@ impl<'a> Names<'a> {
         Ok((names, number))
     }
 
-    /// The node of the formula of an item's expression, which sees all names.
+    /// Returns the index of the node of an output's formula, which sees all names.
     fn unfold(&self, nodes: &mut NodeList, alloc: Global, e: &Expr) -> Result<u32, AllocError>
         requires light { IsLight (value_of (shape e.now) (env_now self.now)) }
         requires kept { HaveNodes nodes.old self.now }
@@ -88,7 +90,7 @@ impl<'a> Names<'a> {
         self.formula(nodes, at, e)
     }
 
-    /// The node of a definition's expression, where it is to be made now.
+    /// Returns the node of a definition's expression if the definition is deep.
     fn unfold_if(
         &self,
         nodes: &mut NodeList,
@@ -117,7 +119,7 @@ impl<'a> Names<'a> {
 }
 
 impl<'a> Unfolded<'a> {
-    /// Makes what is known before the first item. It does not allocate.
+    /// Makes the result before the first item. Doesn't allocate.
     pub fn new(alloc: Global) -> Self
         ensures { StandsAt result before [] }
     {
@@ -129,7 +131,7 @@ impl<'a> Unfolded<'a> {
         }
     }
 
-    /// What is known after a struct.
+    /// Returns the result after a struct.
     fn after_struct(
         self,
         alloc: Global,
@@ -142,7 +144,7 @@ impl<'a> Unfolded<'a> {
         Ok(Unfolded { names, ..self })
     }
 
-    /// What is known after signals of one type.
+    /// Returns the result after signals of one type.
     fn after_input(
         self,
         alloc: Global,
@@ -168,7 +170,7 @@ impl<'a> Unfolded<'a> {
         })
     }
 
-    /// What is known after a definition, which is unfolded now where it is deep.
+    /// Returns the result after a definition, which is unfolded now if it is deep.
     fn after_define(
         self,
         alloc: Global,
@@ -196,7 +198,7 @@ impl<'a> Unfolded<'a> {
         })
     }
 
-    /// What is known after an output with a formula.
+    /// Returns the result after an output with a formula.
     fn after_formula(
         self,
         alloc: Global,
@@ -225,7 +227,7 @@ impl<'a> Unfolded<'a> {
         })
     }
 
-    /// What is known after an output with a contract.
+    /// Returns the result after an output with a contract.
     fn after_contract(
         self,
         alloc: Global,
@@ -258,7 +260,8 @@ impl<'a> Unfolded<'a> {
         })
     }
 
-    /// What is known after one more item. A definition that is deep is unfolded now, another one where it is used.
+    /// Returns the result after an item. A deep definition is unfolded now, and any other
+    /// definition when it is used.
     pub fn after(
         self,
         alloc: Global,

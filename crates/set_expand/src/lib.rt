@@ -1,8 +1,9 @@
 //! Unfolding of a whole specification: its outputs as one list of nodes.
 //!
-//! `outputs_of` in the `specs/` of `c2po_types` defines the outputs of a specification: names have the values of
-//! their definitions, fields and sets are taken apart, and quantifiers become formulas over their bodies. [`expand`]
-//! returns nodes that unfold to it, operands before the nodes that use them.
+//! `outputs_of` in the `specs/` of `c2po_types` defines the outputs of a specification: names have
+//! the values of their definitions, fields and sets are taken apart, and quantifiers become
+//! formulas over their bodies. [`expand`] returns nodes that unfold to it, operands before the
+//! nodes that use them.
 //!
 //! ```text
 //! let spec = check(alloc, &parse(alloc, &lex(alloc, b"INPUT p: bool; FTSPEC foreach(v: {p, !p})(v);")?)?)?;

@@ -1,4 +1,4 @@
-//! Names, each with its meaning.
+//! Names with their meanings.
 
 ghost use Rattle.std.specs.Prelude.{◌≡◌, ◌<◌, ℕ, List as Seq, [], length, map, position, OnOk, IfOk};
 ghost use Rattle.std.specs.Str.{bytes_eq};
@@ -22,11 +22,12 @@ use std::marker::Model;
 /// The meaning of a name.
 #[derive(Clone, Copy)]
 pub enum Entry<'a> {
-    /// A struct: its fields, and its number.
+    /// A struct, with its fields and its number.
     Struct(&'a List<FieldDecl>, usize),
-    /// A signal, of kind bool or int, by its number.
+    /// A signal, Boolean or integer, by its number.
     Signal(bool, u32),
-    /// The value of an expression under the first names, as many as this number, and its node, if it is made.
+    /// A definition: its expression, the number of names that the expression sees, and its node, if
+    /// it has been made.
     Defined(&'a Expr, usize, Option<Made>),
 }
 
@@ -37,7 +38,8 @@ pub struct Declared<'a> {
     pub entry: Entry<'a>,
 }
 
-/// The names of a specification in the order of declaration, which contracts see as a table of these.
+/// The names of a specification in the order of declaration, which contracts see as a table of
+/// meanings.
 #[derive(Drop)]
 pub struct Names<'a> {
     table: Meanings<Declared<'a>>,
@@ -61,7 +63,7 @@ impl<'a> Model for Names<'a> {
     ghost invariant = { λ names. AreNumbered names.table names.structs };
 }
 
-/// Puts a name after the others, unless it is there.
+/// Appends a name, unless the table has it.
 fn put<'a>(
     table: &mut Meanings<Declared<'a>>,
     alloc: Global,
@@ -79,7 +81,7 @@ fn put<'a>(
 }
 
 impl<'a> Names<'a> {
-    /// Makes the table without names. It does not allocate.
+    /// Makes a table without names. Doesn't allocate.
     pub fn new(alloc: Global) -> Self
         ensures { result ≡ [] }
     {
@@ -89,7 +91,7 @@ impl<'a> Names<'a> {
         }
     }
 
-    /// The number of names.
+    /// Returns the number of names.
     pub fn count(&self) -> usize
         ensures number { result ≡ length self.now }
         ensures all { env_of self.now result ≡ env_now self.now }
@@ -97,7 +99,8 @@ impl<'a> Names<'a> {
         self.table.len()
     }
 
-    /// The meaning of a name to the first `before` names; none where it was declared later.
+    /// Returns the meaning of a name among the first `before` names, or `Nothing` if it isn't one
+    /// of them.
     pub fn find(&self, before: usize, name: &Name) -> Named<'a>
         ensures means { named_meaning self.now result ≡ env_of self.now before name.now }
         ensures below { (n : ℕ) → SignalsBelow n self.now → NamedBelow n result }
@@ -114,7 +117,7 @@ impl<'a> Names<'a> {
         }
     }
 
-    /// The place of a field among those of a struct, where the first names have it.
+    /// Returns the place of a field of a struct, if the struct is among the first `before` names.
     pub fn place_of(&self, before: usize, whole: &Name, field: &Name) -> Option<usize>
         ensures { result ≡ position (bytes_eq field.now)
             (fields_in (env_of self.now before whole.now)) }
@@ -131,7 +134,8 @@ impl<'a> Names<'a> {
         }
     }
 
-    /// The entry of a definition, with its node, if it is made: what its expression leads to.
+    /// Returns the entry of a definition: the value that its expression leads to, or its node, if
+    /// it has been made.
     fn entry_of(
         &self,
         e: &'a Expr,
@@ -162,7 +166,7 @@ impl<'a> Names<'a> {
         }
     }
 
-    /// The names with a struct. A name that is known keeps its meaning.
+    /// Adds a struct. A known name keeps its meaning.
     pub fn with_struct(
         self,
         alloc: Global,
@@ -187,7 +191,7 @@ impl<'a> Names<'a> {
         Ok(Names { table, structs })
     }
 
-    /// The names with the signal with a number, of kind bool or int. A name that is known keeps its meaning.
+    /// Adds a signal, Boolean or integer, by its number. A known name keeps its meaning.
     pub fn with_signal(
         self,
         alloc: Global,
@@ -207,7 +211,7 @@ impl<'a> Names<'a> {
         Ok(Names { table, structs })
     }
 
-    /// The names with a definition and its node, if it is made. A name that is known keeps its meaning.
+    /// Adds a definition with its node, if it has been made. A known name keeps its meaning.
     pub fn with_definition(
         self,
         alloc: Global,

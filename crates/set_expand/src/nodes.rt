@@ -12,7 +12,7 @@ use mltl_base::Interval;
 use mltl_base::limits::MAX_BOUND;
 use std::alloc::AllocError;
 
-/// What a value is unfolded to.
+/// The node of an unfolded value.
 #[derive(Clone, Copy)]
 pub enum Made {
     /// The node of an integer.
@@ -23,7 +23,7 @@ pub enum Made {
     Whole,
 }
 
-/// The node of a signal, of kind bool or int.
+/// Returns the node of a signal, Boolean or integer.
 pub(crate) fn signal_of(truth: bool, number: u32) -> Plain
     ensures { result ≡ signal_node truth number }
 {
@@ -34,7 +34,7 @@ pub(crate) fn signal_of(truth: bool, number: u32) -> Plain
     }
 }
 
-/// The interval of an operator with these bounds; where it is out of bounds, the nearest one.
+/// Returns the interval with these bounds, or the nearest interval if it is out of bounds.
 pub(crate) fn interval_of(low: u64, high: u64) -> Interval
     ensures { result ≡ interval low high }
 {
@@ -44,7 +44,7 @@ pub(crate) fn interval_of(low: u64, high: u64) -> Interval
 }
 
 impl<'a> Names<'a> {
-    /// A node after the others, whose operands are among them.
+    /// Appends a node whose operands are among the nodes, and returns its index.
     pub(crate) fn place(&self, nodes: &mut NodeList, node: Plain) -> Result<u32, AllocError>
         requires formed { (signals : ℕ) → SignalsBelow signals self.now
             → IsFormed signals (trees nodes.old) node }

@@ -1,21 +1,23 @@
-//! Which definitions are unfolded when they are declared.
+//! The choice of definitions that are unfolded when they are declared.
 //!
-//! The expression of a definition is unfolded within what uses its name, so a chain of definitions nests as deeply as it
-//! is long. Definitions that would nest too deeply are unfolded when they are declared, so that the stack stays small.
-//! Which ones these are doesn't change the result.
+//! The expression of a definition is unfolded within the expression that uses its name, so a chain
+//! of definitions nests as deeply as it is long. Definitions that would nest too deeply are
+//! unfolded when they are declared, so that the stack stays small. The choice doesn't change the
+//! result.
 
 use crate::heads::{deeper, is_operator};
 use c2po_ast::{Body, Expr, Item, Node};
 use mltl_base::NameTable;
 use std::alloc::{AllocError, Global};
 
-/// The levels that expressions nest within one another, by the names that they use, before one is unfolded by itself.
+/// The number of levels that expressions may nest through the names that they use. A definition
+/// with more is unfolded by itself.
 const LEVELS: u32 = 200;
 
-/// The definitions by their names: of each the index of its item.
+/// The indices of the items of definitions, by the definitions' names.
 type Places = NameTable<usize>;
 
-/// The levels of an expression. The definitions that it names go after those that were found.
+/// Returns the levels of an expression, and appends the definitions that it names to `found`.
 #[cycle(naming)]
 fn levels_of(
     places: &Places,
@@ -49,7 +51,7 @@ fn levels_of(
     Ok(within.saturating_add(1))
 }
 
-/// The levels of two expressions.
+/// Returns the levels of the deeper of two expressions.
 #[cycle(naming)]
 fn levels_of_both(
     places: &Places,
@@ -63,7 +65,7 @@ fn levels_of_both(
     Ok(left.max(right))
 }
 
-/// The levels of expressions.
+/// Returns the levels of the deepest of these expressions.
 #[cycle(naming)]
 fn levels_of_all(
     places: &Places,
@@ -79,7 +81,7 @@ fn levels_of_all(
     Ok(most)
 }
 
-/// The definitions of a specification by their names.
+/// Returns the definitions of a specification by their names.
 fn places_of(alloc: Global, items: &[Item]) -> Result<Places, AllocError> {
     let mut places = NameTable::new(alloc);
     for i in 0..items.len() {
@@ -92,7 +94,8 @@ fn places_of(alloc: Global, items: &[Item]) -> Result<Places, AllocError> {
     Ok(places)
 }
 
-/// The levels of an item, and the definitions that it names, where it is an output or a definition that is used.
+/// Returns the levels of an output or a used definition, or 0 for any other item, and appends the
+/// definitions that it names to `found`.
 fn levels_of_item(
     places: &Places,
     found: &mut Vec<usize>,
@@ -115,7 +118,7 @@ fn levels_of_item(
     }
 }
 
-/// Whether a flag is set; `false` past the end.
+/// Returns `true` if flag `i` is set, and `false` past the end.
 pub(crate) fn is_set(flags: &[bool], i: usize) -> bool {
     match flags.get(i) {
         Some(flag) => *flag,
@@ -123,7 +126,7 @@ pub(crate) fn is_set(flags: &[bool], i: usize) -> bool {
     }
 }
 
-/// Marks what was found.
+/// Marks the definitions that were found as used.
 fn mark(used: &mut Vec<bool>, found: &[usize]) {
     for place in found {
         if let Some(is_used) = used.get_mut(*place) {
@@ -132,7 +135,8 @@ fn mark(used: &mut Vec<bool>, found: &[usize]) {
     }
 }
 
-/// Which items are used: the definitions that outputs name, and those that these name.
+/// Returns a flag for each item, set if it is a definition that an output uses, directly or through
+/// other definitions.
 fn used_items(alloc: Global, places: &Places, items: &[Item]) -> Result<Vec<bool>, AllocError> {
     let mut used = vec![in alloc; false; items.len()]?;
     for k in 0..items.len() {
@@ -145,7 +149,7 @@ fn used_items(alloc: Global, places: &Places, items: &[Item]) -> Result<Vec<bool
     Ok(used)
 }
 
-/// The most levels among the definitions that were found.
+/// Returns the largest number of levels among the definitions that were found.
 fn most_levels(levels: &[u32], found: &[usize]) -> u32 {
     let mut most = 0;
     for place in found {
@@ -156,7 +160,7 @@ fn most_levels(levels: &[u32], found: &[usize]) -> u32 {
     most
 }
 
-/// Whether an item is a definition by an operator.
+/// Returns `true` if an item defines a name as an operator.
 fn defines_operator(item: &Item) -> bool {
     match &item.body {
         Body::Define(_, e) => is_operator(e),
@@ -164,7 +168,7 @@ fn defines_operator(item: &Item) -> bool {
     }
 }
 
-/// Of each item whether it is a definition that is unfolded when it is declared.
+/// Returns a flag for each item, set if it is a definition that is unfolded when it is declared.
 pub(crate) fn deep_items(alloc: Global, items: &[Item]) -> Result<Vec<bool>, AllocError> {
     let places = places_of(alloc, items)?;
     let used = used_items(alloc, &places, items)?;
