@@ -16,31 +16,31 @@ use Rattle.c2po_parse.specs.Splitting.{at_end}
 use Rattle.c2po_parse.specs.declared.operator.Start.{Start}
 use Rattle.c2po_parse.specs.declared.operator.Start.TheVariants.{Leaf, Before, Round, Open, Bind}
 
--- The reading of an expression from the left, by climbing levels: what the parser does, one step a call.
+-- The reading of an expression from the left, by climbing levels, in the steps of the parser.
 
--- what is to be read next
+-- the part of an expression to read next
 pub data Goal : Type 0 where
   -- an expression with operators of this level and above
   Whole : (level : ℕ) → Goal
-  -- its first operand
+  -- the first operand of such an expression
   Operand : (level : ℕ) → Goal
-  -- what follows an operand that was read
+  -- the operators of this level and above after an operand that was read
   Rest : (level : ℕ) (left : Shape) → Goal
-  -- elements within brackets, after those that were read
+  -- elements within brackets, after the elements that were read
   Elements : (bracket : Bracket) (so_far : List Shape) → Goal
 
--- the tree that is read, and the tokens after it
+-- a reading: it finds the tree of a part and the tokens after it
 abbrev pub Climbs : Type 0
 Climbs = Goal → List Token → Option (Shape × List Token)
 
--- an expression and `)`
+-- the reading of an expression and `)`
 abbrev pub closed : Climbs → List Token → Option (Shape × List Token)
 closed read ts = do
   x ← read (Whole 1) ts
   rest ← past sign.RightRound x.1
   Some (x.0, rest)
 
--- a quantifier after its variable
+-- the reading of a quantifier after its variable
 abbrev pub after_variable : Climbs → ℕ → Quantifier → List ℕ → List Token → Option (Shape × List Token)
 after_variable read line q x ts = do
   s ← read (Whole 1) ts
@@ -48,13 +48,13 @@ after_variable read line q x ts = do
   e ← closed read m.1
   Some (quantified line q x s.0 m.0 e.0, e.1)
 
--- an operand after a prefix, which no operator of a tighter level takes
+-- the reading of an operand after a prefix, which can't be an operand of an operator that binds tighter
 abbrev pub after_prefix : Climbs → ℕ → Prefix → List Token → Option (Shape × List Token)
 after_prefix read level p ts =
     if nat_le level (prefix_level p) then (read (Whole (prefix_level p)) ts >>= λ x. Some (prefixed p x.0, x.1))
     else None
 
--- an operand, given how it begins and what follows that
+-- the reading of an operand from its start and the tokens after the start
 abbrev pub operand : Climbs → ℕ → Start × List Token → Option (Shape × List Token)
 operand read level (Leaf line a, rest) = Some (leaf line a, rest)
 operand read level (Before p, rest) = after_prefix read level p rest
@@ -62,24 +62,24 @@ operand read level (Round, rest) = closed read rest
 operand read level (Open b, rest) = read (Elements b []) rest
 operand read level (Bind line q x, rest) = after_variable read line q x rest
 
--- an operator after an operand
+-- the reading of an operator after an operand, with its right operand
 abbrev pub joins : Climbs → ℕ → Shape → Operator × List Token → Option (Shape × List Token)
 joins read level left (Binary line op, rest) = do
   x ← read (Whole (right_level (level_of (Binary line op)))) rest
   read (Rest level (joined line op left x.0)) x.1
 joins read level left (Field line x, rest) = read (Rest level (pick line left x)) rest
 
--- an operand, joined by the operators of this level and above that follow it
+-- an operand, joined by the operators of this level and above after it
 abbrev pub climbed : Climbs → ℕ → Shape → List Token → Option (Operator × List Token) → Option (Shape × List Token)
 climbed read level left ts None = Some (left, ts)
 climbed read level left ts (Some o) = if nat_le level (level_of o.0) then joins read level left o else Some (left, ts)
 
--- after an element a comma leads to more of them, the closing sign ends them
+-- the reading after an element: a comma leads to more elements, the closing sign ends them
 abbrev pub elements_of : Climbs → Bracket → List Shape → List Token → Option (List Token) → Option (Shape × List Token)
 elements_of read b es ts (Some rest) = read (Elements b es) rest
 elements_of read b es ts None = past (closing b) ts >>= λ rest. Some (enclosed b es, rest)
 
--- one step of the reading, by what is to be read next
+-- one step of the reading, by the part to read next
 abbrev pub climb_step : Climbs → Climbs
 climb_step read (Whole level) ts = read (Operand level) ts >>= λ x. read (Rest level x.0) x.1
 climb_step read (Operand level) ts = start_at ts >>= λ s. operand read level s

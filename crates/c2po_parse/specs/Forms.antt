@@ -17,11 +17,11 @@ use Rattle.c2po_parse.specs.declared.section.Section.TheVariants.{Struct, Input,
 
 -- The forms of items, section by section.
 
--- how a type at the front is read
+-- a reading of the type at the front
 abbrev pub TypeReads : Type 0
 TypeReads = List Token → Option (TypeShape × List Token)
 
--- a type is a name, `bool`, `int`, or `set<` type `>`
+-- the type that begins with a token: a name, `bool`, `int`, or `set<` type `>`
 abbrev pub type_in : TypeReads → What → List Token → Option (TypeShape × List Token)
 type_in read (what.Word x) ts = Some (type_named x, ts)
 type_in read (what.Reserved keyword.Bool) ts = Some (type_named (codes "bool"), ts)
@@ -33,43 +33,43 @@ type_in read (what.Reserved keyword.Set) ts = do
   Some (set_of k.0, vs)
 type_in read _ ts = None
 
--- the type at the start, given how a type inside it is read
+-- the type at the front, from the reading of a type inside it
 abbrev pub type_step : TypeReads → TypeReads
 type_step read [] = None
 type_step read (t ∷ ts) = type_in read t.what ts
 
--- the type at the start, with at most this many nested sets
+-- the type at the front, with at most this many nested types
 unfoldable pub type_within : ℕ → TypeReads
 type_within zero ts = None
 type_within (suc n) ts = type_step (type_within n) ts
 
--- the type at the front, and what follows it
+-- the type at the front, and the tokens after it
 abbrev pub type_at : List Token → Option (TypeShape × List Token)
 type_at ts = type_within (length ts) ts
 
--- how names with commas between them are read
+-- a reading of names with commas between them
 abbrev pub NamesRead : Type 0
 NamesRead = List Token → Option (List (List ℕ) × List Token)
 
--- a comma leads to more names
+-- the reading after a name: a comma leads to more names
 abbrev pub names_or : NamesRead → List ℕ → List Token → Option (List Token) → Option (List (List ℕ) × List Token)
 names_or read x ts None = Some (x ∷ [], ts)
 names_or read x ts (Some rest) = read rest >>= λ xs. Some (x ∷ xs.0, xs.1)
 
--- the names at the start, at most this many, and what follows them
+-- the names at the front, at most this many, and the tokens after them
 unfoldable pub names_within : ℕ → NamesRead
 names_within zero ts = None
 names_within (suc n) ts = name_at ts >>= λ x. names_or (names_within n) x.0 x.1 (past sign.Comma x.1)
 
--- names after others
+-- the names that were read, and more names
 abbrev pub names_after : List (List ℕ) → Option (List (List ℕ) × List Token) → Option (List (List ℕ) × List Token)
 names_after so_far o = option_map (λ xs. (so_far ++ xs.0, xs.1)) o
 
--- the names at the front, one or more, and what follows them
+-- the names at the front, one or more, and the tokens after them
 abbrev pub names_at : List Token → Option (List (List ℕ) × List Token)
 names_at ts = names_within (length ts) ts
 
--- names and their type
+-- names `:` type
 abbrev pub typed_at : List Token → Option (List (List ℕ) × TypeShape × List Token)
 typed_at ts = do
   xs ← names_at ts
@@ -77,17 +77,17 @@ typed_at ts = do
   k ← type_at us
   Some (xs.0, k.0, k.1)
 
--- how fields are read up to the brace that closes them
+-- a reading of fields up to the closing brace
 abbrev pub FieldsRead : Type 0
 FieldsRead = List Token → Option (List FieldShape × List Token)
 
--- a `}` ends the fields, else more of them follow
+-- the reading after a list of fields: `}` ends them, else more fields follow
 abbrev pub fields_or : FieldsRead → List FieldShape → List Token → Option (List Token)
     → Option (List FieldShape × List Token)
 fields_or read fs ts (Some rest) = Some (fs, rest)
 fields_or read fs ts None = read ts >>= λ gs. Some (fs ++ gs.0, gs.1)
 
--- the fields at the start, in at most this many lists, their `}`, and what follows it
+-- the fields at the front, in at most this many lists, their `}`, and the tokens after it
 unfoldable pub fields_within : ℕ → FieldsRead
 fields_within zero ts = None
 fields_within (suc n) ts = do
@@ -95,12 +95,12 @@ fields_within (suc n) ts = do
   us ← past sign.Semicolon d.2
   fields_or (fields_within n) (fields_for d.0 d.1) us (past sign.RightCurly us)
 
--- fields after others
+-- the fields that were read, and more fields
 abbrev pub fields_after : List FieldShape → Option (List FieldShape × List Token)
     → Option (List FieldShape × List Token)
 fields_after so_far o = option_map (λ fs. (so_far ++ fs.0, fs.1)) o
 
--- the fields at the front, one list or more, their `}`, and what follows it
+-- the fields at the front, one list or more, their `}`, and the tokens after it
 abbrev pub fields_at : List Token → Option (List FieldShape × List Token)
 fields_at ts = fields_within (length ts) ts
 
@@ -125,20 +125,20 @@ define_of ts = do
   e ← parsed_tree us
   Some (define x.0 e)
 
--- a name and `:` at the front are a label
+-- the label and the tokens after it, if there is a name and `:`, else no label and all tokens
 abbrev pub labelled : List Token → Option (List ℕ × List Token) → Option (List ℕ) × List Token
 labelled ts None = (None, ts)
 labelled ts (Some x) = (Some x.0, x.1)
 
--- the label at the front, if there is one, and what follows it
+-- the label at the front, if there is one, and the tokens after it
 unfoldable pub label_at : List Token → Option (List ℕ) × List Token
 label_at ts = labelled ts (name_at ts >>= λ x. past sign.Colon x.1 >>= λ us. Some (x.0, us))
 
--- whether a token is a `=>` outside brackets
+-- the token is a `=>` outside brackets
 abbrev pub is_promise : ℕ → What → Bool
 is_promise depth w = nat_eq depth 0 && is_sign sign.Promises w
 
--- the index of the first `=>` outside brackets, counted from an index on, with this many brackets open before it
+-- the index of the first `=>` outside brackets; the first token has the index `place`, with `depth` brackets open before it
 unfoldable pub promise_at : ℕ → ℕ → List Token → Option ℕ
 promise_at place depth [] = None
 promise_at place depth (t ∷ ts) = if is_promise depth t.what then Some place
@@ -149,7 +149,7 @@ abbrev pub contract_of : Engine → Option (List ℕ) → List Token → List To
 contract_of engine label left right = if is_some (promise_at 0 0 right) then None
     else (parsed_tree left >>= λ e. parsed_tree right >>= λ f. Some (contract engine label e f))
 
--- a formula, or a contract where there is one `=>` outside brackets
+-- a formula, or a contract if there is one `=>` outside brackets
 abbrev pub output_at : Engine → Option (List ℕ) → List Token → Option ℕ → Option BodyShape
 output_at engine label ts None = parsed_tree ts >>= λ e. Some (formula engine label e)
 output_at engine label ts (Some n) = contract_of engine label (take n ts) (drop (n + 1) ts)

@@ -2,7 +2,8 @@ use Rattle.std.specs.Prelude.{◌≡◌, Option, Some, None, Result, Ok, Err, �
 use Rattle.c2po_parse.specs.declared.tree_fault.TreeFault.{TreeFault}
 use Rattle.c2po_parse.specs.declared.tree_fault.TreeFault.TheVariants.{NoTree, Memory}
 
--- What was read, as view sees it, is what there is to be read. Where there is something, it can only be out of memory.
+-- The code's result, through the view, is the tree that the definition finds. If there is a tree, the only fault is out of
+-- memory.
 abbrev pub GivesTree : {X Y : Type 0} → (X → Y) → Result X TreeFault → Option Y → Type 0
 GivesTree view (Ok x) o = o ≡ Some (view x)
 GivesTree view (Err NoTree) o = o ≡ None

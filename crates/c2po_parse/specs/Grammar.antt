@@ -13,21 +13,21 @@ use Rattle.c2po_parse.specs.Splitting.{parsed_tree}
 use Rattle.c2po_parse.specs.declared.section.Section.{Section}
 use Rattle.c2po_parse.specs.declared.section.Section.TheVariants.{Struct, Input, Define, Output}
 
--- The grammar of items. Each rule says which tokens have a form, and what they say then.
+-- The grammar of items. Each rule relates the tokens of a form to the shape that they spell.
 
--- a token that is this sign
+-- the token is this sign
 abbrev pub IsSign : Sign → Token → Type 0
 IsSign s t = t.what ≡ what.Sign s
 
--- a token that is this reserved word
+-- the token is this reserved word
 abbrev pub IsReserved : Keyword → Token → Type 0
 IsReserved k t = t.what ≡ what.Reserved k
 
--- a token that is this name
+-- the token is this name
 abbrev pub IsNamed : List ℕ → Token → Type 0
 IsNamed x t = t.what ≡ what.Word x
 
--- a type is a name, `bool`, `int`, or `set` `<` type `>`
+-- the tokens spell the type: a name, `bool`, `int`, or `set` `<` type `>`
 pub data SpellsType : List Token → TypeShape → Type 0 where
   name_type : (t : Token) (x : List ℕ) → IsNamed x t → SpellsType (t ∷ []) (type_named x)
   bool_type : (t : Token) → IsReserved keyword.Bool t → SpellsType (t ∷ []) (type_named (codes "bool"))
@@ -36,13 +36,13 @@ pub data SpellsType : List Token → TypeShape → Type 0 where
       IsReserved keyword.Set t → IsSign sign.Less less → SpellsType ts k → IsSign sign.Greater greater →
       SpellsType (t ∷ less ∷ (ts ++ greater ∷ [])) (set_of k)
 
--- names are one or more names with commas between them
+-- the tokens spell the names: one or more names with commas between them
 pub data SpellNames : List Token → List (List ℕ) → Type 0 where
   one_name : (t : Token) (x : List ℕ) → IsNamed x t → SpellNames (t ∷ []) (x ∷ [])
   and_names : (t comma : Token) (ts : List Token) (x : List ℕ) (xs : List (List ℕ)) →
       IsNamed x t → IsSign sign.Comma comma → SpellNames ts xs → SpellNames (t ∷ comma ∷ ts) (x ∷ xs)
 
--- names `:` type
+-- the tokens spell the names and their type: names `:` type
 pub record SpellTyped (ts : List Token) (xs : List (List ℕ)) (k : TypeShape) : Type 0 where
   pub names : List Token
   pub colon : Token
@@ -56,7 +56,7 @@ pub record SpellTyped (ts : List Token) (xs : List (List ℕ)) (k : TypeShape) :
 abbrev pub fields_for : List (List ℕ) → TypeShape → List FieldShape
 fields_for xs k = map (λ x. record { name = x; kind = k }) xs
 
--- fields are one or more of: names `:` type `;`
+-- the tokens spell the fields: one or more of names `:` type `;`
 pub data SpellFields : List Token → List FieldShape → Type 0 where
   one_list : (ts : List Token) (semicolon : Token) (xs : List (List ℕ)) (k : TypeShape) →
       SpellTyped ts xs k → IsSign sign.Semicolon semicolon → SpellFields (ts ++ semicolon ∷ []) (fields_for xs k)
@@ -65,14 +65,14 @@ pub data SpellFields : List Token → List FieldShape → Type 0 where
       SpellTyped ts xs k → IsSign sign.Semicolon semicolon → SpellFields us fs →
       SpellFields (ts ++ semicolon ∷ us) (fields_for xs k ++ fs)
 
--- a label is nothing, or name `:`
+-- the tokens spell the label: nothing, or name `:`
 pub data SpellsLabel : List Token → Option (List ℕ) → Type 0 where
   no_label : SpellsLabel [] None
   is_label : (t colon : Token) (x : List ℕ) → IsNamed x t → IsSign sign.Colon colon →
       SpellsLabel (t ∷ colon ∷ []) (Some x)
 
--- The tokens of an item of a section, without the `;` that ends it, and what they say. The tree of an expression is
--- that of the splitting of its tokens.
+-- The tokens of an item of a section, without the `;` that ends it, spell the body. The tree of an expression is the tree
+-- that splitting finds for its tokens.
 pub data SpellsItem : Section → List Token → BodyShape → Type 0 where
   -- STRUCT: name `:` `{` fields `}`
   is_struct : (t colon left : Token) (ts : List Token) (right : Token) (x : List ℕ) (fs : List FieldShape) →

@@ -10,24 +10,24 @@ use Rattle.c2po_parse.specs.Grammar.{IsSign, SpellsItem}
 
 -- The sections and items of a specification, and its first fault.
 
--- how many braces are open after tokens, from the number before them
+-- the number of open braces after tokens, from the number before them
 unfoldable pub braces_open : ℕ → List Token → ℕ
 braces_open d [] = d
 braces_open d (t ∷ ts) = braces_open (braces_after t.what d) ts
 
--- a `;` that no braces of the tokens before it enclose
+-- the token is a `;` outside the braces of the tokens before it
 pub record EndsItem (ts : List Token) (t : Token) : Type 0 where
   pub is_semicolon : IsSign sign.Semicolon t
   pub outside : braces_open 0 ts ≡ 0
 
--- Tokens within one item: none of them begins a section, and in a section none ends the item. Before the first section
--- no token ends it.
+-- The tokens lie within one item: none begins a section, and in a section none ends the item. Before the first section no
+-- token ends an item.
 abbrev pub IsWithinItem : Option Section → List Token → Type 0
 IsWithinItem section ts = (before : List Token) (t : Token) (after : List Token) → ts ≡ before ++ t ∷ after →
     (section_of t.what ≡ None) × (is_some section ≡ true → ¬ EndsItem before t)
 
--- An item of a section with the `;` that ends it: at most 1,024 tokens, which say what the item says. Its line is that
--- of its first token.
+-- The tokens, at most 1,024, and the `;` that ends them are this item of the section: they spell its body, and its line is
+-- the line of the first token, or of the `;` if there is no token.
 pub record IsItem (section : Section) (ts : List Token) (end : Token) (item : ItemShape) : Type 0 where
   pub within : IsWithinItem (Some section) ts
   pub ends : EndsItem ts end
@@ -35,15 +35,15 @@ pub record IsItem (section : Section) (ts : List Token) (end : Token) (item : It
   pub says : SpellsItem section ts item.body
   pub line : item.line ≡ line_or end.line ts
 
--- the items of a section are any number of items, each with its `;`
+-- the tokens are these items of the section, each with its `;`
 pub data AreItems : Section → List Token → List ItemShape → Type 0 where
   no_items : (section : Section) → AreItems section [] []
   and_item : (section : Section) (ts us : List Token) (end : Token) (items : List ItemShape) (item : ItemShape) →
       AreItems section ts items → IsItem section us end item →
       AreItems section (ts ++ (us ++ end ∷ [])) (items ++ item ∷ [])
 
--- Sections are any number of sections, each the word that begins it and its items. Which section is the last is said
--- too, where there is one.
+-- The tokens are sections with these items. Each section is the word that begins it and its items. The last section, if any,
+-- is given too.
 pub data AreSections : List Token → Option Section → List ItemShape → Type 0 where
   no_sections : AreSections [] None []
   and_section : (ts : List Token) (word : Token) (us : List Token) (before : Option Section) (section : Section)
@@ -51,19 +51,19 @@ pub data AreSections : List Token → Option Section → List ItemShape → Type
       AreSections ts before items → section_of word.what ≡ Some section → AreItems section us more →
       AreSections (ts ++ word ∷ us) (Some section) (items ++ more)
 
--- a specification is sections
+-- the tokens are a specification with these items: any number of sections
 pub record IsSpecification (ts : List Token) (items : List ItemShape) : Type 0 where
   pub last : Option Section
   pub sections : AreSections ts last items
 
--- the end of the text, or the word that begins a section
+-- the tokens are empty, or begin with the word of a section
 pub data EndsSection : List Token → Type 0 where
   at_end_of_text : EndsSection []
   at_section : (word : Token) (ts : List Token) (next : Section) → section_of word.what ≡ Some next →
       EndsSection (word ∷ ts)
 
--- The tokens of the next item of a section, or of what comes before the first one, whether or not they have a form:
--- they end at a `;`, or without one where the section ends.
+-- The tokens begin with this next item of the section, or with this piece before the first section, whether or not it has a
+-- form: it ends at a `;`, or without a `;` at the end of the section.
 pub data NextItem : Option Section → List Token → Statement → Type 0 where
   at_semicolon : (section : Section) (ts : List Token) (end : Token) (rest : List Token) →
       IsWithinItem (Some section) ts → EndsItem ts end →
@@ -73,20 +73,20 @@ pub data NextItem : Option Section → List Token → Statement → Type 0 where
       IsWithinItem section (t ∷ ts) → EndsSection rest →
       NextItem section (t ∷ ts ++ rest) (record { section = section; line = t.line; tokens = t ∷ ts; ended = false })
 
--- an item says something where it has a section, its `;` and a form
+-- the item has a section, its `;`, and a form that spells the body
 pub record HasForm (p : Statement) (body : BodyShape) : Type 0 where
   pub section : Section
   pub is_in : p.section ≡ Some section
   pub is_ended : p.ended ≡ true
   pub says : SpellsItem section p.tokens body
 
--- the fault of an item: too many tokens, else that it has no form
+-- the item has the fault: too many tokens, else no form
 pub data HasFault : Statement → ParseFault → Type 0 where
   too_many : (p : Statement) → 1024 < length p.tokens → HasFault p (TooManyTokens p.line)
   no_form : (p : Statement) → length p.tokens ≤ 1024 → ((body : BodyShape) → ¬ HasForm p body) →
       HasFault p (Grammar p.line)
 
--- the first fault of a specification: all that comes before is sections without a fault, and the next item has it
+-- the first fault of the tokens is this one: sections without a fault come first, and the next item has the fault
 pub record HasFirstFault (ts : List Token) (fault : ParseFault) : Type 0 where
   pub before : List Token
   pub last : Option Section

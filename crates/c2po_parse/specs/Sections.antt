@@ -10,8 +10,8 @@ use Rattle.c2po_parse.specs.Tokens.{is_sign}
 use Rattle.c2po_parse.specs.declared.section.Section.{Section}
 use Rattle.c2po_parse.specs.declared.section.Section.TheVariants.{Struct, Input, Define, Output}
 
--- The items of a token list: section words cut it wherever they occur, and within a section `;` outside braces ends
--- an item.
+-- The items of a token list. Section words cut the list wherever they occur, and within a section each `;` outside braces
+-- ends an item.
 
 -- the section that a word begins
 abbrev pub section_of : What → Option Section
@@ -22,7 +22,7 @@ section_of (what.Reserved keyword.FtSpec) = Some (Output Ft)
 section_of (what.Reserved keyword.PtSpec) = Some (Output Pt)
 section_of _ = None
 
--- how many braces are open after a token; a `}` without its `{` leaves none open
+-- the number of open braces after a token; a `}` without its `{` leaves none open
 abbrev pub braces_after : What → ℕ → ℕ
 braces_after (what.Sign sign.LeftCurly) d = suc d
 braces_after (what.Sign sign.RightCurly) d = pred d
@@ -35,32 +35,32 @@ pub record Statement : Type 0 where
   pub tokens : List Token
   pub ended : Bool
 
--- the line of the first token, or another line where there is none
+-- the line of the first token, or another line if there is no token
 abbrev pub line_or : ℕ → List Token → ℕ
 line_or line [] = line
 line_or line (t ∷ ts) = t.line
 
--- an item that a `;` on a line ends
+-- the piece of an item that a `;` on a line ends
 abbrev pub item_of : Option Section → ℕ → List Token → Statement
 item_of section line tokens = record { section = section; line = line_or line tokens; tokens = tokens; ended = true }
 
--- what no `;` ends, where there is anything
+-- the piece that no `;` ends, if it has tokens
 abbrev pub unended_piece : Option Section → List Token → List Statement
 unended_piece section [] = []
 unended_piece section (t ∷ ts) = record { section = section; line = t.line; tokens = t ∷ ts; ended = false } ∷ []
 
--- whether a token other than a section's word ends an item
+-- the token, if it isn't a section's word, ends an item
 abbrev pub is_end : Option Section → ℕ → What → Bool
 is_end section depth w = is_some section && (nat_eq depth 0 && is_sign sign.Semicolon w)
 
--- a section's word, the end of an item, or another token
+-- the choice for a token: at a section's word, at the end of an item, or at another token
 abbrev pub chosen : {A : Type 0} → Option Section → Bool → (Section → A) → A → A → A
 chosen (Some section) ended begins ends goes_on = begins section
 chosen None true begins ends goes_on = ends
 chosen None false begins ends goes_on = goes_on
 
--- The pieces of a token list after some tokens of the same piece, within a section or before the first one, with so
--- many braces open.
+-- The pieces of a token list, after the tokens of the same piece in `before`, within a section or before the first one, with
+-- `depth` open braces.
 unfoldable pub pieces : Option Section → ℕ → List Token → List Token → List Statement
 pieces section depth before [] = unended_piece section before
 pieces section depth before (t ∷ ts) = chosen (section_of t.what) (is_end section depth t.what)
@@ -68,27 +68,27 @@ pieces section depth before (t ∷ ts) = chosen (section_of t.what) (is_end sect
     (item_of section t.line before ∷ pieces section 0 [] ts)
     (pieces section (braces_after t.what depth) (before ++ t ∷ []) ts)
 
--- how many braces are open after a token that doesn't end the piece
+-- the number of open braces after a token, if the token doesn't end the piece
 abbrev pub depth_within : Option Section → ℕ → What → Option ℕ
 depth_within section depth w =
     chosen (section_of w) (is_end section depth w) (λ next. None) None (Some (braces_after w depth))
 
--- one token more where the piece goes on
+-- the length of a piece: one more token if the piece continues, else 0
 abbrev pub token_more : Option ℕ → (ℕ → ℕ) → ℕ
 token_more None len = 0
 token_more (Some depth) len = len depth + 1
 
--- how many tokens there are before the end of a piece
+-- the number of tokens before the end of a piece
 unfoldable pub piece_len : Option Section → ℕ → List Token → ℕ
 piece_len section depth [] = 0
 piece_len section depth (t ∷ ts) = token_more (depth_within section depth t.what) (λ next. piece_len section next ts)
 
--- whether the first token begins no section
+-- there is a first token, and it begins no section
 abbrev pub begins_item : List Token → Bool
 begins_item [] = false
 begins_item (t ∷ ts) = is_none (section_of t.what)
 
--- whether the first of these tokens ends an item, where it ends a piece
+-- the first token, if it ends a piece, ends an item
 abbrev pub ended_of : List Token → Bool
 ended_of [] = false
 ended_of (t ∷ ts) = is_none (section_of t.what)

@@ -21,24 +21,24 @@ use Rattle.c2po_parse.specs.declared.operator.Start.TheVariants.{Leaf, Before, R
 abbrev pub Cut : Type 0
 Cut = List Token × List Token
 
--- a cut with a token put before it
+-- the cut with one more token before its first part
 abbrev pub with_front : Token → Option Cut → Option Cut
 with_front t None = None
 with_front t (Some c) = Some (t ∷ c.0, c.1)
 
--- what is looked for at a token outside brackets, given whether the token before ends an operand
+-- a test of a token outside brackets; it also sees whether the token before ends an operand
 abbrev pub Test : Type 0
 Test = Bool → Token → Bool
 
--- The cut before the first token outside brackets that passes the test. A list is gone through with two things in mind:
--- whether the token before ends an operand, and how many brackets are open.
+-- The cut before the first token outside brackets that passes the test. `after` tells whether the token before ends an
+-- operand, and `depth` how many brackets are open.
 unfoldable pub cut_first : Test → Bool → ℕ → List Token → Option Cut
 cut_first test after depth [] = None
 cut_first test after depth (t ∷ ts) =
     if nat_eq depth 0 && test after t then Some ([], t ∷ ts)
     else with_front t (cut_first test (ends_operand t.what) (depth_after t.what depth) ts)
 
--- the later of two cuts, where there is one
+-- the later of two cuts: a cut further on, else the cut at the front if the test passes there
 abbrev pub later : Option Cut → Bool → List Token → Option Cut
 later (Some c) here ts = Some c
 later None true ts = Some ([], ts)
@@ -51,37 +51,37 @@ cut_last test after depth (t ∷ ts) =
     later (with_front t (cut_last test (ends_operand t.what) (depth_after t.what depth) ts))
     (nat_eq depth 0 && test after t) (t ∷ ts)
 
--- operators of a level
+-- the token is an operator of this level
 abbrev pub has_level : ℕ → Test
 has_level level after t = nat_eq (level_after after t.what) level
 
--- signs that end an expression
+-- the token is a sign that ends an expression
 abbrev pub ends_expression : Test
 ends_expression after t = is_separator t.what
 
--- the split at a level of operators: at the first one for the right level, at the last one for the others
+-- the split at an operator of this level: at the first for the level that groups to the right, at the last for other levels
 abbrev pub split_at : ℕ → List Token → Option Cut
 split_at level ts = if is_right_level level then cut_first (has_level level) false 0 ts
     else cut_last (has_level level) false 0 ts
 
--- what is inside brackets up to the first comma or closing bracket, which begins the second part
+-- the cut of tokens inside brackets before the first comma or closing bracket
 abbrev pub cut_inside : List Token → Option Cut
 cut_inside ts = cut_first ends_expression false 0 ts
 
--- how a token list is read at a level
+-- a reading of a token list at a level
 abbrev pub ReadsLevel : Type 0
 ReadsLevel = ℕ → List Token → Option Shape
 
--- how elements with commas between them are read, up to the sign that closes them
+-- a reading of elements with commas between them, up to the closing sign
 abbrev pub ReadsAll : Type 0
 ReadsAll = Sign → List Token → Option (List Shape)
 
--- where nothing is left
+-- the value, if no token is left
 abbrev pub at_end : {A : Type 0} → A → List Token → Option A
 at_end a [] = Some a
 at_end a (t ∷ ts) = None
 
--- the two sides of an operator, or the operand before a picked field
+-- the tree of an operator from its two sides, or of a picked field from its operand
 abbrev pub sides : ReadsLevel → ℕ → List Token → Operator × List Token → Option Shape
 sides read level left (Binary line op, right) = do
   e ← read (left_level level) left
@@ -89,18 +89,18 @@ sides read level left (Binary line op, right) = do
   Some (joined line op e f)
 sides read level left (Field line x, right) = read (left_level level) left >>= λ e. at_end (pick line e x) right
 
--- an expression at a level of operators, split at one of them or read at the next level
+-- the tree of an expression at a level of operators, split at an operator or read at the next level
 abbrev pub at_operators : ReadsLevel → ℕ → List Token → Option Cut → Option Shape
 at_operators read level ts None = read (suc level) ts
 at_operators read level ts (Some c) = operator_at c.1 >>= λ o. sides read level c.0 o
 
--- a leading prefix of the level is taken off
+-- the tree of an expression at a level of prefixes, with a leading prefix of the level, or read at the next level
 abbrev pub at_prefixes : ReadsLevel → ℕ → List Token → Option (Start × List Token) → Option Shape
 at_prefixes read level ts (Some (Before p, rest)) =
     if nat_eq (prefix_level p) level then (read level rest >>= λ e. Some (prefixed p e)) else read (suc level) ts
 at_prefixes read level ts _ = read (suc level) ts
 
--- an expression, `)` and nothing else
+-- the tree of an expression that is followed by `)` and nothing else
 abbrev pub block : ReadsLevel → List Token → Option Shape
 block read ts = do
   c ← cut_inside ts
@@ -108,7 +108,7 @@ block read ts = do
   e ← read 1 c.0
   at_end e rest
 
--- the forms of the tightest level, level 12
+-- the tree of an expression at the tightest level, level 12
 abbrev pub primary : ReadsLevel → ReadsAll → Start × List Token → Option Shape
 primary read read_all (Leaf line a, rest) = at_end (leaf line a) rest
 primary read read_all (Before p, rest) = None
@@ -128,7 +128,7 @@ split_step read read_all level ts =
     else if is_prefix_level level then at_prefixes read level ts (start_at ts)
     else at_operators read level ts (split_at level ts)
 
--- the first element is read; a comma leads to more of them, the closing sign ends the list
+-- the reading after an element: a comma leads to more elements, the closing sign ends the list
 abbrev pub more_or_end : ReadsAll → Sign → Shape → List Token → Option (List Token) → Option (List Shape)
 more_or_end read_all s e ts (Some rest) = read_all s rest >>= λ es. Some (e ∷ es)
 more_or_end read_all s e ts None = past s ts >>= λ rest. at_end (e ∷ []) rest
@@ -140,7 +140,7 @@ elements_step read read_all s ts = do
   e ← read 1 c.0
   more_or_end read_all s e c.1 (past sign.Comma c.1)
 
--- with at most this many steps
+-- the readings with at most this many steps
 unfoldable mutual
   pub tree_within : ℕ → ReadsLevel
   tree_within zero level ts = None
@@ -150,6 +150,6 @@ unfoldable mutual
   trees_within zero s ts = None
   trees_within (suc n) s ts = elements_step (tree_within n) (trees_within n) s ts
 
--- The tree of a token list. Each step takes away a token or raises the level, so these steps are enough.
+-- The tree of a token list. Each step removes a token or raises the level, so this number of steps is enough.
 unfoldable pub parsed_tree : List Token → Option Shape
 parsed_tree ts = tree_within (13 * length ts + 13) 1 ts

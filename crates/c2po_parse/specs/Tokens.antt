@@ -37,15 +37,15 @@ sign_index sign.Star = 25
 sign_index sign.Slash = 26
 sign_index sign.Percent = 27
 
--- whether a token is this sign
+-- the token is this sign
 abbrev pub is_sign : Sign → What → Bool
 is_sign s (what.Sign r) = nat_eq (sign_index r) (sign_index s)
 is_sign s _ = false
 
--- The level of the operator between or after operands that a sign or a word is; 0 where it is none. Level 1 binds
--- loosest. The prefixes `!`, `F`, `G`, `O` and `H` have level 6 and the prefix `-` has level 10.
+-- Levels of operators between or after operands. Level 1 binds loosest, and 0 means no operator. The prefixes `!`, `F`, `G`,
+-- `O` and `H` have level 6, and the prefix `-` has level 10.
 
--- the level of the operator that a sign is
+-- the level of the operator that a sign stands for
 abbrev pub sign_level : Sign → ℕ
 sign_level sign.Iff = 1
 sign_level sign.Implies = 2
@@ -65,20 +65,20 @@ sign_level sign.Percent = 9
 sign_level sign.Dot = 11
 sign_level _ = 0
 
--- the level of the temporal operator that a word is between formulas
+-- the level of the temporal operator between formulas that a word stands for
 abbrev pub word_level : Keyword → ℕ
 word_level keyword.U = 5
 word_level keyword.R = 5
 word_level keyword.S = 5
 word_level _ = 0
 
--- the level of the operator that a token is
+-- the level of the operator that a token stands for
 abbrev pub token_level : What → ℕ
 token_level (what.Sign s) = sign_level s
 token_level (what.Reserved k) = word_level k
 token_level _ = 0
 
--- whether an operand can end with the token: a name, a number, `true`, `false`, `)` or `}`
+-- an operand can end with the token: a name, a number, `true`, `false`, `)` or `}`
 abbrev pub ends_operand : What → Bool
 ends_operand (what.Word x) = true
 ends_operand (what.Number n) = true
@@ -88,13 +88,12 @@ ends_operand (what.Sign sign.RightRound) = true
 ends_operand (what.Sign sign.RightCurly) = true
 ends_operand _ = false
 
--- the level of a token as an operator, given whether the token before it ends an operand: only after such a token is
--- `-` an operator between operands
+-- the level of a token as an operator; `-` is an operator between operands only if the token before it ends an operand
 abbrev pub level_after : Bool → What → ℕ
 level_after true w = token_level w
 level_after false w = if is_sign sign.Minus w then 0 else token_level w
 
--- how many brackets are open after a token, from the number before it
+-- the number of open brackets after a token, from the number before it
 abbrev pub depth_after : What → ℕ → ℕ
 depth_after (what.Sign sign.LeftRound) d = suc d
 depth_after (what.Sign sign.LeftCurly) d = suc d
@@ -104,7 +103,7 @@ depth_after (what.Sign sign.RightCurly) d = pred d
 depth_after (what.Sign sign.RightSquare) d = pred d
 depth_after _ d = d
 
--- the signs that end an expression: no tree has them but inside brackets
+-- the token is a sign that ends an expression; a tree has such signs only inside brackets
 abbrev pub is_separator : What → Bool
 is_separator (what.Sign sign.RightRound) = true
 is_separator (what.Sign sign.RightCurly) = true
@@ -116,11 +115,11 @@ is_separator (what.Sign sign.Promises) = true
 is_separator (what.Sign sign.Becomes) = true
 is_separator _ = false
 
--- the only level whose first operator splits, and not the last: `a -> b -> c` is `a -> (b -> c)`
+-- the level groups to the right, so its first operator splits: `a -> b -> c` is `a -> (b -> c)`
 abbrev pub is_right_level : ℕ → Bool
 is_right_level level = nat_eq level 2
 
--- the levels of prefixes
+-- the level is a level of prefixes
 abbrev pub is_prefix_level : ℕ → Bool
 is_prefix_level level = nat_eq level 6 || nat_eq level 10
 

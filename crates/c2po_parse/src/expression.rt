@@ -20,14 +20,14 @@ use mltl_base::Name;
 use mltl_base::limits::MAX_ITEM_TOKENS;
 use std::alloc::Global;
 
-/// What is left of the room for nested steps after one step.
+/// Returns the room for nested steps that is left after one step.
 fn deeper(room: u32) -> Result<u32, TreeFault>
     ensures { MatchResult result (λ left. room ≡ suc left) (λ e. (room ≡ 0) × (e ≡ NoTree)) }
 {
     room.checked_sub(1).ok_or(TreeFault::NoTree)
 }
 
-/// The level at which the right operand of an operator is read.
+/// Returns the level at which the right operand of an operator is read.
 fn right_level_of(level: u8) -> u8
     requires { level + 1 < 256 }
     ensures { result ≡ right_level level }
@@ -38,7 +38,8 @@ fn right_level_of(level: u8) -> u8
     }
 }
 
-/// An expression with operators of this level and above, and what follows it.
+/// Reads an expression with operators of this level and above, and returns it with the tokens after
+/// it.
 #[cycle(climbing)]
 #[tactic(auto, unfolding(crate::specs::Climbing::climb))]
 fn whole(
@@ -54,7 +55,7 @@ fn whole(
     follow(alloc, room, level, left, rest)
 }
 
-/// The first operand of an expression, and what follows it.
+/// Reads the first operand of an expression, and returns it with the tokens after it.
 #[cycle(climbing)]
 #[tactic(auto, unfolding(crate::specs::Climbing::climb))]
 fn operand(
@@ -78,7 +79,7 @@ fn operand(
     }
 }
 
-/// The operand after a prefix, which no operator of a tighter level takes.
+/// Reads the operand after a prefix, which can't be an operand of an operator that binds tighter.
 #[cycle(climbing)]
 fn prefixed_operand(
     alloc: Global,
@@ -99,7 +100,7 @@ fn prefixed_operand(
     Ok((expr, rest))
 }
 
-/// An expression up to its `)`.
+/// Reads an expression and its `)`.
 #[cycle(climbing)]
 fn in_brackets(alloc: Global, room: u32, tokens: &[Token]) -> Result<(Expr, &[Token]), TreeFault>
     ensures { GivesTree (λ x. (shape x.0, x.1.now)) result (closed (climb room) tokens.now) }
@@ -109,7 +110,7 @@ fn in_brackets(alloc: Global, room: u32, tokens: &[Token]) -> Result<(Expr, &[To
     Ok((expr, rest))
 }
 
-/// The set, the number where there is one, and the body of a quantifier.
+/// Reads the set of a quantifier, its number if it counts, and its body.
 #[cycle(climbing)]
 fn quantified_operand(
     alloc: Global,
@@ -133,7 +134,7 @@ fn quantified_operand(
     ))
 }
 
-/// What goes on after an operand, and what follows the whole.
+/// Reads the operators of this level and above after an operand, with their right operands.
 #[cycle(climbing)]
 #[tactic(auto, unfolding(crate::specs::Climbing::climb))]
 fn follow(
@@ -167,7 +168,8 @@ fn follow(
     }
 }
 
-/// Elements with commas between them, after those that were read, up to the sign that closes them.
+/// Reads elements with commas between them up to the closing sign, after the elements that were
+/// read.
 #[cycle(climbing)]
 #[tactic(auto, unfolding(crate::specs::Climbing::climb))]
 fn elements(
@@ -190,10 +192,11 @@ fn elements(
     Ok((enclose(bracket, members), rest))
 }
 
-/// How deep the reading of an item's tokens may go: 4 steps for each of at most 1,024 tokens, and one for the end.
+/// The number of nested steps that an item may take: 4 for each of at most 1,024 tokens, and 1 for
+/// the end.
 const ROOM: u32 = 4_097;
 
-/// An expression of all tokens, read by climbing.
+/// Returns the expression that all tokens form, read by climbing.
 fn climbed(alloc: Global, tokens: &[Token]) -> Result<Expr, TreeFault>
     ensures { GivesTree shape result (climb_all ROOM tokens.now) }
 {
@@ -204,11 +207,11 @@ fn climbed(alloc: Global, tokens: &[Token]) -> Result<Expr, TreeFault>
     }
 }
 
-/// Returns the tree of an expression, which is defined by splitting the tokens at the loosest operator, level by
-/// level.
+/// Returns the tree of an expression, which is defined by splitting the tokens at the loosest
+/// operator, level by level.
 ///
-/// The tokens are gone through once, from the left. At most 1,024 tokens are taken, so that the nesting is bounded.
-/// `NoTree` is answered exactly where the grammar has no tree for the tokens.
+/// The tokens are read once, from the left. There may be at most 1,024 of them, so the nesting is
+/// bounded. `NoTree` is returned exactly if the grammar has no tree for the tokens.
 pub fn read_expression(alloc: Global, tokens: &[Token]) -> Result<Expr, TreeFault>
     requires { length tokens.now ≤ MAX_ITEM_TOKENS }
     ensures tree { GivesTree shape result (parsed_tree tokens.now) }

@@ -1,4 +1,4 @@
-//! Why a specification has no tree.
+//! Faults of a specification that has no tree.
 
 ghost use Rattle.std.specs.Prelude.{◌≡◌};
 ghost use Rattle.c2po_parse.specs.declared.fault.ParseFault.TheVariants.{Memory};
@@ -9,10 +9,10 @@ use thiserror::Error;
 /// The fault of the first faulty item, with its line, counted from 1.
 #[derive(Clone, Copy, Debug, Error)]
 pub enum ParseFault {
-    /// An item of more than 1,024 tokens.
+    /// An item has more than 1,024 tokens.
     #[error("line {0}: an item of more than 1024 tokens")]
     TooManyTokens(u32),
-    /// An item that the grammar gives no tree.
+    /// The grammar gives an item no tree.
     #[error("line {0}: an item that the grammar doesn't know")]
     Grammar(u32),
     /// Out of memory.

@@ -17,28 +17,28 @@ use mltl_base::limits::MAX_ITEM_TOKENS;
 use mltl_base::{Engine, List, Name};
 use std::alloc::Global;
 
-/// What is left of the room for nested or repeated steps after one step.
+/// Returns the room for nested or repeated steps that is left after one step.
 fn deeper(room: usize) -> Result<usize, TreeFault>
     ensures { MatchResult result (λ left. room ≡ suc left) (λ e. (room ≡ 0) × (e ≡ NoTree)) }
 {
     room.checked_sub(1).ok_or(TreeFault::NoTree)
 }
 
-/// The name of the Boolean type.
+/// Returns the name of the Boolean type.
 fn bool_name() -> Name
     ensures { result ≡ codes "bool" }
 {
     Name::of(b"bool").unwrap()
 }
 
-/// The name of the integer type.
+/// Returns the name of the integer type.
 fn int_name() -> Name
     ensures { result ≡ codes "int" }
 {
     Name::of(b"int").unwrap()
 }
 
-/// A type, and what follows it.
+/// Reads a type, and returns it with the tokens after it.
 #[tactic(auto, unfolding(crate::specs::Forms::type_within))]
 fn take_type(
     alloc: Global,
@@ -65,7 +65,8 @@ fn take_type(
     }
 }
 
-/// Puts names with commas between them after those that were read, and gives what follows them.
+/// Appends names with commas between them to the names that were read, and returns the tokens after
+/// them.
 #[tactic(auto, unfolding(crate::specs::Forms::names_within))]
 fn take_names<'a>(
     room: usize,
@@ -84,7 +85,7 @@ fn take_names<'a>(
     }
 }
 
-/// Names, `:`, their type, and what follows.
+/// Reads names, `:` and their type, and returns them with the tokens after them.
 fn take_typed(
     alloc: Global,
     tokens: &[Token],
@@ -98,7 +99,7 @@ fn take_typed(
     Ok((names, kind, rest))
 }
 
-/// Puts one more field for each name after those before.
+/// Appends a field of this type for each name.
 fn add_fields(
     alloc: Global,
     fields: &mut List<FieldDecl>,
@@ -118,7 +119,8 @@ fn add_fields(
     Ok(())
 }
 
-/// Puts fields after those that were read, up to the brace that closes them, and gives what follows it.
+/// Appends fields up to the closing brace to the fields that were read, and returns the tokens
+/// after the brace.
 #[tactic(auto, unfolding(crate::specs::Forms::fields_within))]
 fn take_fields<'a>(
     alloc: Global,
@@ -139,7 +141,7 @@ fn take_fields<'a>(
     }
 }
 
-/// A body where nothing is left of its tokens.
+/// Returns the body if no token is left, else `NoTree`.
 fn whole_body(body: Body, rest: &[Token]) -> Result<Body, TreeFault>
     ensures { GivesTree body_shape result (at_end (body_shape body) rest.now) }
 {
@@ -149,7 +151,7 @@ fn whole_body(body: Body, rest: &[Token]) -> Result<Body, TreeFault>
     }
 }
 
-/// A struct: its name, `:`, and its fields in braces.
+/// Reads a struct: its name, `:`, and its fields in braces.
 #[tactic(auto, unfolding(crate::specs::Forms::struct_item))]
 fn struct_body(alloc: Global, tokens: &[Token]) -> Result<Body, TreeFault>
     ensures { GivesTree body_shape result (struct_item tokens.now) }
@@ -162,7 +164,7 @@ fn struct_body(alloc: Global, tokens: &[Token]) -> Result<Body, TreeFault>
     whole_body(Body::Struct(name, fields), rest)
 }
 
-/// Signals: their names, `:`, and their type.
+/// Reads signals: their names, `:`, and their type.
 #[tactic(auto, unfolding(crate::specs::Forms::input_of))]
 fn input_body(alloc: Global, tokens: &[Token]) -> Result<Body, TreeFault>
     ensures { GivesTree body_shape result (input_of tokens.now) }
@@ -171,7 +173,7 @@ fn input_body(alloc: Global, tokens: &[Token]) -> Result<Body, TreeFault>
     whole_body(Body::Input(names, kind), rest)
 }
 
-/// A definition: its name, `:=`, and an expression.
+/// Reads a definition: its name, `:=`, and an expression.
 #[tactic(auto, unfolding(crate::specs::Forms::define_of))]
 fn define_body(alloc: Global, tokens: &[Token]) -> Result<Body, TreeFault>
     requires { length tokens.now ≤ MAX_ITEM_TOKENS }
@@ -183,7 +185,7 @@ fn define_body(alloc: Global, tokens: &[Token]) -> Result<Body, TreeFault>
     Ok(Body::Define(name, expr))
 }
 
-/// The label at the front, where there is one, and what follows it.
+/// Reads the label at the front, if there is one, and returns it with the tokens after it.
 #[tactic(auto, unfolding(crate::specs::Forms::label_at))]
 fn take_label(tokens: &[Token]) -> (Option<Name>, &[Token])
     ensures label { (result.0, result.1.now) ≡ label_at tokens.now }
@@ -198,7 +200,7 @@ fn take_label(tokens: &[Token]) -> (Option<Name>, &[Token])
     }
 }
 
-/// A contract: assumption and guarantee, without a second `=>`.
+/// Reads a contract: assumption and guarantee, without a second `=>`.
 fn contract_body(
     alloc: Global,
     engine: Engine,
@@ -218,7 +220,7 @@ fn contract_body(
     Ok(Body::Contract(engine, label, assumption, guarantee))
 }
 
-/// An output: an optional label, and a formula or a contract.
+/// Reads an output: an optional label, and a formula or a contract.
 #[tactic(auto, unfolding(crate::specs::Forms::output_item))]
 fn output_body(alloc: Global, engine: Engine, tokens: &[Token]) -> Result<Body, TreeFault>
     requires { length tokens.now ≤ MAX_ITEM_TOKENS }
@@ -234,7 +236,7 @@ fn output_body(alloc: Global, engine: Engine, tokens: &[Token]) -> Result<Body, 
     }
 }
 
-/// The body of an item in a section.
+/// Reads the body of an item in a section.
 pub fn read_body(alloc: Global, section: Section, tokens: &[Token]) -> Result<Body, TreeFault>
     requires { length tokens.now ≤ MAX_ITEM_TOKENS }
     ensures { GivesTree body_shape result (body_of section tokens.now) }

@@ -1,4 +1,4 @@
-//! What a token list begins with.
+//! The fronts of token lists: signs, names, operators and the starts of operands.
 
 ghost use Rattle.std.specs.Prelude.{◌≡◌, ◌<◌, length, option_map, IfSome};
 ghost use Rattle.c2po_parse.specs.Fronts.{past, name_at, natural_at, interval_at, sign_infix, word_between, word_window, word_quantifier, field_pick, operator_at, bound_start, window_start, start_at, threshold_at, middle_at, named_or_called, word_start, sign_start};
@@ -7,7 +7,7 @@ use crate::operator::{Atom, Bracket, Infix, Operator, Prefix, Quantifier, Start}
 use c2po_lexer::{Keyword, Sign, Token, What};
 use mltl_base::{ArithOp, BetweenOp, CompareOp, CountOp, LogicOp, Name, WindowOp};
 
-/// What follows a sign.
+/// Returns the tokens after a sign, if it is at the front.
 pub fn take_sign(sign: Sign, tokens: &[Token]) -> Option<&[Token]>
     ensures taken { option_map (λ rest. rest.now) result ≡ past sign tokens.now }
     ensures shorter { IfSome result (λ rest. length rest.now < length tokens.now) }
@@ -24,7 +24,7 @@ pub fn take_sign(sign: Sign, tokens: &[Token]) -> Option<&[Token]>
     }
 }
 
-/// A name, and what follows it.
+/// Returns the name at the front and the tokens after it.
 pub fn take_name(tokens: &[Token]) -> Option<(Name, &[Token])>
     ensures taken { option_map (λ x. (x.0, x.1.now)) result ≡ name_at tokens.now }
     ensures shorter { IfSome result (λ x. length x.1.now < length tokens.now) }
@@ -41,7 +41,7 @@ pub fn take_name(tokens: &[Token]) -> Option<(Name, &[Token])>
     }
 }
 
-/// A number that isn't negative, and what follows it.
+/// Returns the natural number at the front and the tokens after it.
 fn take_natural(tokens: &[Token]) -> Option<(u64, &[Token])>
     ensures { option_map (λ x. (x.0, x.1.now)) result ≡ natural_at tokens.now }
 {
@@ -60,7 +60,8 @@ fn take_natural(tokens: &[Token]) -> Option<(u64, &[Token])>
     }
 }
 
-/// The bounds of an interval, and what follows it. One number alone is the upper bound.
+/// Returns the bounds of the interval at the front and the tokens after it. A single number is the
+/// upper bound.
 #[tactic(auto, unfolding(crate::specs::Fronts::interval_at))]
 fn take_interval(tokens: &[Token]) -> Option<(u64, u64, &[Token])>
     ensures { option_map (λ x. (x.0, x.1, x.2.now)) result ≡ interval_at tokens.now }
@@ -76,7 +77,7 @@ fn take_interval(tokens: &[Token]) -> Option<(u64, u64, &[Token])>
     Some((first, second, rest))
 }
 
-/// The operator that a sign is between operands.
+/// Returns the operator between operands that a sign stands for.
 fn infix_of(sign: Sign) -> Option<Infix>
     ensures { result ≡ sign_infix sign }
 {
@@ -100,7 +101,7 @@ fn infix_of(sign: Sign) -> Option<Infix>
     }
 }
 
-/// The temporal operator between formulas that a word is.
+/// Returns the temporal operator between formulas that a word stands for.
 fn between_of(word: Keyword) -> Option<BetweenOp>
     ensures { result ≡ word_between word }
 {
@@ -112,7 +113,7 @@ fn between_of(word: Keyword) -> Option<BetweenOp>
     }
 }
 
-/// The temporal operator before a formula that a word is.
+/// Returns the temporal operator before a formula that a word stands for.
 fn window_of(word: Keyword) -> Option<WindowOp>
     ensures { result ≡ word_window word }
 {
@@ -125,7 +126,7 @@ fn window_of(word: Keyword) -> Option<WindowOp>
     }
 }
 
-/// The quantifier that a word is.
+/// Returns the quantifier that a word stands for.
 fn quantifier_of(word: Keyword) -> Option<Quantifier>
     ensures { result ≡ word_quantifier word }
 {
@@ -139,7 +140,7 @@ fn quantifier_of(word: Keyword) -> Option<Quantifier>
     }
 }
 
-/// The picked field after a `.`, and what follows it.
+/// Returns the picked field after a `.` and the tokens after it.
 fn take_field(tokens: &[Token]) -> Option<(Operator, &[Token])>
     ensures { option_map (λ x. (x.0, x.1.now)) result ≡ field_pick tokens.now }
 {
@@ -156,7 +157,7 @@ fn take_field(tokens: &[Token]) -> Option<(Operator, &[Token])>
     }
 }
 
-/// An operator after an operand, and what follows it.
+/// Returns the operator after an operand and the tokens after it.
 #[tactic(auto, unfolding(crate::specs::Fronts::operator_at))]
 pub(crate) fn take_operator(tokens: &[Token]) -> Option<(Operator, &[Token])>
     ensures { option_map (λ x. (x.0, x.1.now)) result ≡ operator_at tokens.now }
@@ -196,7 +197,7 @@ pub(crate) fn take_operator(tokens: &[Token]) -> Option<(Operator, &[Token])>
     }
 }
 
-/// The variable of a quantifier in its brackets up to `:`, and what follows that.
+/// Reads `(`, the variable of a quantifier and `:`, and returns the start with the tokens after it.
 fn take_bound(line: u32, quantifier: Quantifier, tokens: &[Token]) -> Option<(Start, &[Token])>
     ensures { option_map (λ x. (x.0, x.1.now)) result ≡ bound_start line quantifier tokens.now }
 {
@@ -206,7 +207,7 @@ fn take_bound(line: u32, quantifier: Quantifier, tokens: &[Token]) -> Option<(St
     Some((Start::Bind(line, quantifier, name), rest))
 }
 
-/// The interval of a temporal prefix, and what follows it.
+/// Reads the interval of a temporal prefix, and returns the start with the tokens after it.
 fn take_window(line: u32, word: Keyword, tokens: &[Token]) -> Option<(Start, &[Token])>
     ensures { option_map (λ x. (x.0, x.1.now)) result ≡ window_start line word tokens.now }
 {
@@ -215,7 +216,7 @@ fn take_window(line: u32, word: Keyword, tokens: &[Token]) -> Option<(Start, &[T
     Some((Start::Before(Prefix::Window(line, op, low, high)), rest))
 }
 
-/// A name alone, or a call where `(` follows it.
+/// Returns a call if `(` follows the name, else the name alone, and the tokens after it.
 fn name_start(line: u32, name: Name, tokens: &[Token]) -> (Start, &[Token])
     ensures { (result.0, result.1.now)
         ≡ named_or_called line name tokens.now (past Sign.LeftRound tokens.now) }
@@ -226,7 +227,7 @@ fn name_start(line: u32, name: Name, tokens: &[Token]) -> (Start, &[Token])
     }
 }
 
-/// The operand that a reserved word begins, and what follows its beginning.
+/// Returns the start of an operand at a reserved word and the tokens after it.
 fn word_begins(line: u32, word: Keyword, tokens: &[Token]) -> Option<(Start, &[Token])>
     ensures { option_map (λ x. (x.0, x.1.now)) result
         ≡ word_start line word tokens.now (word_quantifier word) }
@@ -241,7 +242,7 @@ fn word_begins(line: u32, word: Keyword, tokens: &[Token]) -> Option<(Start, &[T
     }
 }
 
-/// The operand that a sign begins, and what follows its beginning.
+/// Returns the start of an operand at a sign and the tokens after it.
 fn sign_begins(line: u32, sign: Sign, tokens: &[Token]) -> Option<(Start, &[Token])>
     ensures { option_map (λ x. (x.0, x.1.now)) result ≡ sign_start line sign tokens.now }
 {
@@ -254,7 +255,7 @@ fn sign_begins(line: u32, sign: Sign, tokens: &[Token]) -> Option<(Start, &[Toke
     }
 }
 
-/// How an operand begins, and what follows that.
+/// Returns the start of the operand at the front and the tokens after it.
 #[tactic(auto, unfolding(crate::specs::Fronts::start_at))]
 pub(crate) fn take_start(tokens: &[Token]) -> Option<(Start, &[Token])>
     ensures { option_map (λ x. (x.0, x.1.now)) result ≡ start_at tokens.now }
@@ -296,7 +297,8 @@ pub(crate) fn take_start(tokens: &[Token]) -> Option<(Start, &[Token])>
     }
 }
 
-/// The number of a counting quantifier, 0 for another one, and what follows it.
+/// Returns the number of a counting quantifier, or 0 for any other quantifier, and the tokens after
+/// it.
 fn take_number(quantifier: Quantifier, tokens: &[Token]) -> Option<(u64, &[Token])>
     ensures { option_map (λ x. (x.0, x.1.now)) result ≡ threshold_at quantifier tokens.now }
 {
@@ -306,7 +308,7 @@ fn take_number(quantifier: Quantifier, tokens: &[Token]) -> Option<(u64, &[Token
     }
 }
 
-/// Reads the tokens between a quantifier's set and its body: the number where it counts, `)` and `(`.
+/// Reads the tokens between a quantifier's set and its body: the number if it counts, `)` and `(`.
 #[tactic(auto, unfolding(crate::specs::Fronts::middle_at))]
 pub(crate) fn take_middle(quantifier: Quantifier, tokens: &[Token]) -> Option<(u64, &[Token])>
     ensures { option_map (λ x. (x.0, x.1.now)) result ≡ middle_at quantifier tokens.now }

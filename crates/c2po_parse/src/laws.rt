@@ -1,4 +1,5 @@
-//! What the grammar and the finding of trees say together: each law is the contract of a function with an empty body.
+//! Laws of the grammar and of the function that finds trees: each law is the contract of a function
+//! with an empty body.
 
 ghost use Rattle.std.specs.Prelude.{◌≡◌, List as Seq, Ok, Err};
 ghost use Rattle.c2po_lexer.specs.declared.token.Token.{Token};
@@ -7,7 +8,7 @@ ghost use Rattle.c2po_parse.specs.declared.fault.ParseFault.{ParseFault};
 ghost use Rattle.c2po_parse.specs.Items.{IsSpecification, HasFirstFault};
 ghost use Rattle.c2po_parse.specs.Specification.{spec_of};
 
-/// The grammar is unambiguous: it gives to tokens one list of trees or one first fault, and never both.
+/// The grammar is unambiguous: it gives tokens one list of trees or one first fault, never both.
 pub fn grammar_is_unambiguous()
     ensures trees { (tokens : Seq Token) (items others : Seq ItemShape) →
         IsSpecification tokens items → IsSpecification tokens others → items ≡ others }
@@ -17,7 +18,7 @@ pub fn grammar_is_unambiguous()
         HasFirstFault tokens fault → ¬ IsSpecification tokens items }
 {}
 
-/// `spec_of` finds the trees that the grammar gives to tokens, and their first fault where it gives none.
+/// `spec_of` finds the trees that the grammar gives tokens, or their first fault if it gives none.
 pub fn trees_are_found()
     ensures trees { (tokens : Seq Token) (items : Seq ItemShape) →
         spec_of tokens ≡ Ok items → IsSpecification tokens items }

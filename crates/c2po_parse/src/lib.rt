@@ -1,9 +1,10 @@
 //! The parser of the compiler: from the tokens of a specification to the trees of its items.
 //!
-//! The grammar is in this crate's `specs/`. A tree comes exactly where the grammar gives one to each item; otherwise the
-//! first faulty item is returned with its line. The tree of an expression is defined by splitting its tokens at the
-//! loosest operator outside brackets, level by level: at the last one, or at the first for `->`. The code reads the
-//! tokens once, from the left, and climbs the levels.
+//! The grammar is in this crate's `specs/`. The trees are returned exactly if the grammar gives one
+//! to each item; otherwise the fault of the first faulty item is returned with its line. The tree
+//! of an expression is defined by splitting its tokens at the loosest operator outside brackets,
+//! level by level: at the last one, or at the first for `->`. The code reads the tokens once, from
+//! the left, and climbs the levels.
 //!
 //! ```text
 //! let tokens = lex(alloc, b"INPUT p, q: bool; FTSPEC f: p -> F[0,3] q;")?;

@@ -1,4 +1,4 @@
-//! The making of trees from what was read, and the levels of operators.
+//! Trees from their parts, and the levels of operators.
 
 ghost use Rattle.std.specs.Prelude.{◌≡◌, ◌++◌, [], ◌∷◌, Some, map};
 ghost use Rattle.c2po_ast.specs.Shape.{shape, pick};
@@ -13,7 +13,7 @@ use c2po_lexer::Sign;
 use mltl_base::{ArithOp, LogicOp, Name};
 use std::alloc::Global;
 
-/// Two operands put into boxes and joined by an operator.
+/// Joins two operands by an operator.
 pub fn join(
     alloc: Global,
     line: u32,
@@ -28,7 +28,7 @@ pub fn join(
     Ok(joined_by(line, binary, left, right))
 }
 
-/// A field picked from an operand.
+/// Picks a field of an operand.
 pub fn pick_of(alloc: Global, line: u32, left: Expr, field: Name) -> Result<Expr, TreeFault>
     ensures { GivesTree shape result (Some (pick line (shape left) field)) }
 {
@@ -36,7 +36,7 @@ pub fn pick_of(alloc: Global, line: u32, left: Expr, field: Name) -> Result<Expr
     Ok(Expr { line, node })
 }
 
-/// An operand put into a box after a prefix.
+/// Applies a prefix to an operand.
 pub fn apply_prefix(alloc: Global, prefix: Prefix, operand: Expr) -> Result<Expr, TreeFault>
     ensures { GivesTree shape result (Some (prefixed prefix (shape operand))) }
 {
@@ -44,12 +44,12 @@ pub fn apply_prefix(alloc: Global, prefix: Prefix, operand: Expr) -> Result<Expr
     Ok(prefixed_by(prefix, operand))
 }
 
-/// Puts one more element after those before.
+/// Appends an element.
 pub fn add_member(elements: &mut Vec<Expr>, element: Expr) -> Result<(), TreeFault>
     ensures { GivesTree (λ _. map shape elements.new.items) result
         (Some (map shape elements.old.items ++ shape element ∷ [])) }
 {
-    // Brackets within one another have one element each, so the first is given no room to spare.
+    // Nested brackets often have one element each, so the first element gets no spare room.
     if elements.is_empty() {
         elements.reserve_exact(1)?;
     }
@@ -57,7 +57,7 @@ pub fn add_member(elements: &mut Vec<Expr>, element: Expr) -> Result<(), TreeFau
     Ok(())
 }
 
-/// The sign that closes brackets.
+/// Returns the sign that closes brackets.
 pub fn closing_of(bracket: &Bracket) -> Sign
     ensures { result ≡ closing bracket.now }
 {
@@ -67,7 +67,7 @@ pub fn closing_of(bracket: &Bracket) -> Sign
     }
 }
 
-/// The level of a binary operator: 1 binds loosest.
+/// Returns the level of a binary operator. Level 1 binds loosest.
 fn infix_level_of(binary: Infix) -> u8
     ensures { result ≡ infix_level binary }
 {
@@ -83,7 +83,7 @@ fn infix_level_of(binary: Infix) -> u8
     }
 }
 
-/// The level of what goes on after an operand: a picked field binds tightest.
+/// Returns the level of an operator after an operand. A picked field binds tightest.
 pub fn operator_level(operator: &Operator) -> u8
     ensures { result ≡ level_of operator.now }
 {
@@ -93,7 +93,7 @@ pub fn operator_level(operator: &Operator) -> u8
     }
 }
 
-/// The level of a prefix, and of its operand.
+/// Returns the level of a prefix, which is also the level of its operand.
 pub fn prefix_level_of(prefix: Prefix) -> u8
     ensures { result ≡ prefix_level prefix }
 {

@@ -1,19 +1,19 @@
-//! What tokens can begin: the start of an operand, and the operator after one.
+//! Starts of operands, and operators after operands.
 
 pub use c2po_ast::operator::{Atom, Bracket, Infix, Prefix, Quantifier};
 use mltl_base::Name;
 
-/// What goes on after an operand: an operator with its line, or a picked field with the line of its name.
+/// An operator after an operand, with its line, or a picked field, with the line of its name.
 #[derive(Drop)]
 pub enum Operator {
     Binary(u32, Infix),
     Field(u32, Name),
 }
 
-/// How an operand begins.
+/// The start of an operand.
 #[derive(Drop)]
 pub enum Start {
-    /// The whole operand, with its line.
+    /// An operand of one token, with its line.
     Leaf(u32, Atom),
     Before(Prefix),
     /// `(` around an expression.

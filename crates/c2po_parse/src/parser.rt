@@ -17,7 +17,7 @@ use mltl_base::List;
 use mltl_base::limits::MAX_ITEM_TOKENS;
 use std::alloc::Global;
 
-/// Makes an item on a line from its tokens, and returns what follows them.
+/// Makes the item on a line from its tokens.
 fn item_on(
     alloc: Global,
     line: u32,
@@ -42,7 +42,7 @@ fn item_on(
     }
 }
 
-/// Whether the first of these tokens ends an item, where it ends a piece; and what follows it.
+/// Returns whether the first token, which ends a piece, ends an item, and the tokens after it.
 fn after_end(tokens: &[Token]) -> (bool, &[Token])
     ensures ended { result.0 ≡ ended_of tokens.now }
     ensures tail { result.1.now ≡ tail_of tokens.now }
@@ -53,7 +53,8 @@ fn after_end(tokens: &[Token]) -> (bool, &[Token])
     }
 }
 
-/// Reads the item at the start, whose first token begins no section, and returns what follows its `;`.
+/// Reads the item at the front, whose first token begins no section, and returns it with the tokens
+/// after its `;`.
 fn item_at(
     alloc: Global,
     section: Option<Section>,
@@ -77,7 +78,7 @@ fn item_at(
     Ok((item, rest))
 }
 
-/// Reads the section's word or the item at the front, and gives what follows it.
+/// Reads the section's word or the item at the front, and returns the tokens after it.
 fn read_front<'a>(
     alloc: Global,
     items: &mut List<Item>,
@@ -100,7 +101,7 @@ fn read_front<'a>(
     Ok(rest)
 }
 
-/// The trees of the items of a token list, or the fault of the first piece that has none.
+/// Returns the trees of the items of a token list, or the fault of the first item without a tree.
 fn read_pieces(alloc: Global, tokens: &Tokens) -> Result<SpecTree, ParseFault>
     ensures tree { IfOk result (λ tree. spec_of tokens.now ≡ Ok (spec_shape tree)) }
     ensures fault { IfErr result (λ fault. fault ≢ ParseFault.Memory
@@ -117,32 +118,34 @@ fn read_pieces(alloc: Global, tokens: &Tokens) -> Result<SpecTree, ParseFault>
     Ok(SpecTree { items })
 }
 
-/// The trees of the items of a specification, or the fault of its first faulty item.
+/// Returns the trees of the items of a specification, or the fault of its first faulty item.
 ///
-/// The words `STRUCT`, `INPUT`, `DEFINE`, `FTSPEC` and `PTSPEC` begin sections wherever they occur; within a section
-/// an item ends at each `;` outside braces. The tree of an expression is defined by splitting its tokens at the
-/// loosest operator outside brackets, level by level; the tokens are read once, from the left.
+/// The words `STRUCT`, `INPUT`, `DEFINE`, `FTSPEC` and `PTSPEC` begin sections wherever they occur.
+/// Within a section, an item ends at each `;` outside braces. The tree of an expression is defined
+/// by splitting its tokens at the loosest operator outside brackets, level by level; the tokens are
+/// read once, from the left.
 ///
-/// Errors: `TooManyTokens` at an item of more than 1,024 tokens, else `Grammar` at an item that has no tree, each with
-/// the line of the item's first token, or of its `;` where it has no token; `Memory` when out of memory.
+/// Errors: `TooManyTokens` at an item of more than 1,024 tokens, else `Grammar` at an item that has
+/// no tree, each with the line of the item's first token, or of its `;` if it has no token;
+/// `Memory` when out of memory.
 pub fn parse(alloc: Global, tokens: &Tokens) -> Result<SpecTree, ParseFault>
-    // The trees that the grammar gives, and it gives no others.
+    // These are the trees that the grammar gives, and the only ones.
     ensures tree { IfOk result (λ tree. IsSpecification tokens.now (spec_shape tree)) }
     ensures unique { IfOk result (λ tree. (items : Seq ItemShape) →
         IsSpecification tokens.now items → items ≡ spec_shape tree) }
 
-    // A refusal: the grammar gives no trees, and the first faulty item has this fault.
+    // On refusal the grammar gives no trees, and the first faulty item has this fault.
     ensures no_tree { IfErr result (λ fault. fault ≢ ParseFault.Memory →
         (items : Seq ItemShape) → ¬ IsSpecification tokens.now items) }
     ensures first_fault { IfErr result (λ fault. fault ≢ ParseFault.Memory →
         HasFirstFault tokens.now fault) }
 
-    // The same by the function that finds the trees.
+    // `spec_of` finds the same trees, or the same fault.
     ensures found { IfOk result (λ tree. spec_of tokens.now ≡ Ok (spec_shape tree)) }
     ensures found_fault { IfErr result (λ fault. fault ≢ ParseFault.Memory
         → spec_of tokens.now ≡ Err fault) }
 
-    // The names of the tree are in the tokens: where those are made of letters, digits and `_`, these are.
+    // If the names in the tokens consist of letters, digits and `_`, so do the names in the tree.
     ensures names { All (λ token. HasPlainLetters token.what) tokens.now
         → IfOk result (λ tree. ArePlainItems (spec_shape tree)) }
 {

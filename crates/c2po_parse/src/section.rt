@@ -1,4 +1,4 @@
-//! The sections of a specification, and where their items end.
+//! The sections of a specification, and the ends of their items.
 
 ghost use Rattle.std.specs.Prelude.{◌≡◌, ◌+◌, ◌^◌, ◌<◌, ◌≤◌, length, IfSome};
 ghost use Rattle.c2po_parse.specs.Tokens.{depth_after};
@@ -8,7 +8,7 @@ ghost use Rattle.c2po_parse.specs.Forms.{is_promise, promise_at};
 use c2po_lexer::{Keyword, Sign, Token, What};
 use mltl_base::Engine;
 
-/// What the items of a section declare.
+/// The sort of a section, by the declarations of its items.
 #[derive(Clone, Copy)]
 pub enum Section {
     Struct,
@@ -18,7 +18,7 @@ pub enum Section {
     Output(Engine),
 }
 
-/// The section that a token begins.
+/// Returns the section that a token begins, if it begins one.
 pub(crate) fn section_begun(what: &What) -> Option<Section>
     ensures { result ≡ section_of what.now }
 {
@@ -32,7 +32,7 @@ pub(crate) fn section_begun(what: &What) -> Option<Section>
     }
 }
 
-/// How many braces are open after a token; a `}` without its `{` leaves none open.
+/// Returns the number of open braces after a token. A `}` without its `{` leaves none open.
 fn braces_after(what: &What, depth: usize) -> usize
     requires { depth + 1 < 2 ^ 64 }
     ensures { result ≡ braces_after what.now depth }
@@ -44,7 +44,8 @@ fn braces_after(what: &What, depth: usize) -> usize
     }
 }
 
-/// How many braces are open after a token of an item; `None` where the token ends the item or begins a section.
+/// Returns the number of open braces after a token of an item, or `None` if the token ends the item
+/// or begins a section.
 fn next_depth(section: Option<Section>, depth: usize, what: &What) -> Option<usize>
     requires { depth + 1 < 2 ^ 64 }
     ensures { result ≡ depth_within section depth what.now }
@@ -58,7 +59,7 @@ fn next_depth(section: Option<Section>, depth: usize, what: &What) -> Option<usi
     Some(braces_after(what, depth))
 }
 
-/// How many tokens there are before the end of the piece at the start.
+/// Returns the number of tokens before the end of the piece at the front.
 #[tactic(auto, unfolding(crate::specs::Sections::piece_len))]
 pub(crate) fn piece_end(section: Option<Section>, tokens: &[Token]) -> usize
     ensures before { result ≡ piece_len section 0 tokens.now }
@@ -78,7 +79,7 @@ pub(crate) fn piece_end(section: Option<Section>, tokens: &[Token]) -> usize
     count
 }
 
-/// How many brackets are open after a token.
+/// Returns the number of open brackets after a token.
 fn brackets_after(what: &What, depth: usize) -> usize
     requires { depth + 1 < 2 ^ 64 }
     ensures { result ≡ depth_after what.now depth }
@@ -92,14 +93,14 @@ fn brackets_after(what: &What, depth: usize) -> usize
     }
 }
 
-/// Whether a token is a `=>` outside brackets.
+/// Returns `true` if a token is a `=>` outside brackets.
 fn splits_contract(depth: usize, what: &What) -> bool
     ensures { result ≡ is_promise depth what.now }
 {
     depth == 0 && matches!(what, What::Sign(Sign::Promises))
 }
 
-/// The place of the first `=>` outside brackets.
+/// Returns the place of the first `=>` outside brackets.
 #[tactic(auto, unfolding(crate::specs::Forms::promise_at))]
 pub(crate) fn promise_place(tokens: &[Token]) -> Option<usize>
     ensures first { result ≡ promise_at 0 0 tokens.now }

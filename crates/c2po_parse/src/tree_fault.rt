@@ -1,4 +1,4 @@
-//! Why tokens have no tree.
+//! Faults of the reading of expressions.
 
 ghost use Rattle.c2po_parse.specs.declared.tree_fault.TreeFault.TheVariants.{Memory};
 ghost use Rattle.std.specs.Prelude.{◌≡◌};
@@ -6,7 +6,7 @@ ghost use Rattle.std.specs.Prelude.{◌≡◌};
 use std::alloc::{AllocError, AllocFailed};
 use thiserror::Error;
 
-/// Why an expression wasn't read.
+/// The reason why an expression isn't read.
 #[derive(Clone, Copy, Debug, Error)]
 pub enum TreeFault {
     /// The grammar has no tree for the tokens.
