@@ -229,6 +229,9 @@ class Source:
             lines += table(f"const char *const {name}_names", [f'"{it.name}"' for it in outputs])
             lines += table(f"const bool {name}_contracts", ["true" if it.is_contract else "false" for it in outputs])
             lines += table(f"const uint32_t {name}_delays", [str(it) for it in self.delays])
+        if self.reports.rings:
+            lines.append("/* Of each output whether its verdicts are read from a ring. */")
+            lines += table("static const bool in_ring", ["true" if k in self.reports.rings else "false" for k in range(len(outputs))])
         digest = self.program.digest
         return [*lines, *table(f"const uint8_t {name}_digest", [f"0x{digest[k:k + 2]}" for k in range(0, 64, 2)])]
 
@@ -327,8 +330,7 @@ class Source:
                 "            if (is_contract && !assumed) differs = open->assumed;",
             ]
         ring = self.reports.rings
-        is_ring = " || ".join(f"k == {k}" for k in ring) if len(ring) < 5 else "is_ring(k)"
-        whole = "differs == 0" if not ring else f"differs == 0 && !({is_ring})"
+        whole = "differs == 0 && !in_ring[k]" if ring else "differs == 0"
         count = f"((open->left - 1) & {width - 1}) + 1"
         return [
             *same,
