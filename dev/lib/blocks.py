@@ -15,7 +15,7 @@ The word after the three backticks says what a block is:
 
 `title="NAME"` makes a file of the block, in a folder that all blocks of a page
 share. `file="PATH"` says that the block is a file of the repository, which other
-tests compile. `needs="NAME"` skips a block where no program has the name; the name
+tests compile or run. `needs="NAME"` skips a block where no program has the name; the name
 `library` is build/x86_64/libr2u2.a, `libr2u2.so` the shared object of build/. Without
 these two a block isn't skipped but wrong, where the programs and what builds a library
 are there.
@@ -241,6 +241,8 @@ class Session:
         """What is wrong with a block, each as a text."""
         if "file" in block.marks:
             yield from same_as_file(block, self.place.root / block.marks["file"])
+            if "title" in block.marks:
+                self.keep(block)
             return
         need = self.lacks(block)
         if need:

@@ -68,6 +68,11 @@ class Blocks(unittest.TestCase):
         self.assertIn("int a;", self.page.read_text(encoding="utf-8"))
         self.assertEqual(self.faults(block("a\n", "c", ' file="embed/no.c"')), ["page.md:3: no file embed/no.c"])
 
+    def test_listed_files_with_a_title(self):
+        self.with_programs()
+        (self.root / "embed/it.c").write_text("int a;\n")
+        self.assertEqual(self.faults(block("int a;\n", "c", ' title="a.c" file="embed/it.c"') + block("$ cat a.c\nint a;\n")), [])
+
     def test_kinds(self):
         self.assertEqual(self.faults(block("a\n", "")), ["page.md:3: nothing says what this block is"])
         self.assertEqual(self.faults(block("a\n", "pearl")), ["page.md:3: pearl says what this block is"])
