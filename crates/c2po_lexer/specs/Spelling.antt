@@ -1,4 +1,4 @@
--- How reserved words and signs are written.
+-- The spelling of reserved words and signs.
 use Rattle.std.specs.Prelude.{ℕ, List, [], ◌∷◌, Option, find, codes, nat_eq}
 use Rattle.std.specs.List.{starts_with}
 use Rattle.std.specs.Str.{bytes_eq}
@@ -76,7 +76,7 @@ sign_text sign.Star = codes "*"
 sign_text sign.Slash = codes "/"
 sign_text sign.Percent = codes "%"
 
--- all signs, those of more bytes first
+-- all signs, longer ones first
 abbrev pub signs : List Sign
 signs =
     sign.Iff ∷ sign.Implies ∷ sign.Promises ∷ sign.Becomes ∷ sign.EqualEqual ∷ sign.NotEqual ∷ sign.LessEqual
@@ -84,6 +84,6 @@ signs =
     ∷ sign.LeftSquare ∷ sign.RightSquare ∷ sign.Comma ∷ sign.Semicolon ∷ sign.Colon ∷ sign.Dot ∷ sign.Bang ∷ sign.Less
     ∷ sign.Greater ∷ sign.Plus ∷ sign.Minus ∷ sign.Star ∷ sign.Slash ∷ sign.Percent ∷ []
 
--- the longest sign that a text begins with, if there is one
+-- the longest sign at the front of a text, if there is one
 abbrev pub sign_at : List ℕ → Option Sign
 sign_at text = find (λ s. starts_with nat_eq text (sign_text s)) signs

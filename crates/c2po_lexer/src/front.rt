@@ -1,4 +1,4 @@
-//! What a text begins with.
+//! The pieces of a text, and the one at its front.
 
 ghost use Rattle.std.specs.Prelude.{◌≡◌, ◌<◌, ◌≤◌, ℕ, length, take};
 ghost use Rattle.mltl_base.specs.Letters.{is_in_word};
@@ -9,8 +9,8 @@ ghost use Rattle.std.specs.Char.{is_ascii_digit};
 use crate::token::Sign;
 use mltl_base::name::is_in_word;
 
-/// What a text begins with: a blank, or how many bytes a comment, a word or a number takes, or a sign, or a byte that
-/// begins none of these.
+/// The sort of the piece at the front of a text: a blank, a comment, a word or a number with its
+/// size in bytes, a sign, or a byte that begins none of these.
 #[derive(Clone, Copy)]
 pub enum Front {
     Blank,
@@ -21,21 +21,21 @@ pub enum Front {
     Stray,
 }
 
-/// Whether a byte is a space, a tab, a carriage return or a newline.
+/// Returns `true` if a byte is a space, a tab, a carriage return or a newline.
 fn is_blank(byte: u8) -> bool
     ensures { result ≡ is_white byte }
 {
     matches!(byte, b' ' | b'\t' | b'\r' | b'\n')
 }
 
-/// Whether a word may begin with a byte.
+/// Returns `true` if a word may begin with this byte.
 fn begins_word(byte: u8) -> bool
     ensures { result ≡ begins_word byte }
 {
     byte.is_ascii_alphabetic() || byte == b'_'
 }
 
-/// How many bytes there are before the next newline.
+/// Returns the number of bytes before the next newline.
 fn line_size(text: &[u8]) -> usize
     ensures longest { result ≡ prefix_len is_in_line text.now }
     ensures inside { result ≤ length text.now }
@@ -43,7 +43,7 @@ fn line_size(text: &[u8]) -> usize
     text.iter().take_while(|byte| **byte != b'\n').count()
 }
 
-/// How many bytes at the start can belong to a word.
+/// Returns the number of bytes at the front that can belong to a word.
 fn word_size(text: &[u8]) -> usize
     ensures longest { result ≡ prefix_len is_in_word text.now }
     ensures inside { result ≤ length text.now }
@@ -51,7 +51,7 @@ fn word_size(text: &[u8]) -> usize
     text.iter().take_while(|byte| is_in_word(**byte)).count()
 }
 
-/// How many digits there are at the start.
+/// Returns the number of digits at the front.
 fn digits_size(text: &[u8]) -> usize
     ensures longest { result ≡ prefix_len is_ascii_digit text.now }
     ensures inside { result ≤ length text.now }
@@ -60,7 +60,7 @@ fn digits_size(text: &[u8]) -> usize
 }
 
 impl Front {
-    /// What a text begins with, as long as can be.
+    /// Returns the longest piece at the front of a text.
     #[tactic(auto, using(crate::proofs::Fronts::size_of_sign), unfolding(crate::specs::Cut::front_of))]
     pub fn of(text: &[u8]) -> Front
         requires { 0 < length text.now }
@@ -86,7 +86,7 @@ impl Front {
         }
     }
 
-    /// How many bytes that is.
+    /// Returns the size of the piece in bytes.
     pub fn size(self) -> usize
         ensures { result ≡ size_of self }
     {

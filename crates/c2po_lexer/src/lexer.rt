@@ -1,4 +1,4 @@
-//! Tokens of a text, or its first fault.
+//! The tokens of a text, or its first fault.
 
 ghost use Rattle.std.specs.Prelude.{◌≡◌, ◌≢◌, ◌==◌, ◌<◌, ◌≤◌, ◌↔◌, ℕ, All, length, count_by, ◌+◌, ◌++◌, option_to_list, OnOk, IsSome, IfSome, IfOk, IfErr, IsTrue, Err, Ok, pos};
 ghost use Rattle.std.specs.Str.{all_ascii_digits};
@@ -14,7 +14,7 @@ use mltl_base::{List, Name};
 use std::alloc::Global;
 use std::str;
 
-/// How many newlines these bytes have.
+/// Returns the number of newlines in these bytes.
 fn newlines(bytes: &[u8]) -> u32
     requires { length bytes.now ≤ MAX_SPEC_BYTES }
     ensures { result ≡ count_by (λ b. b == 10) bytes.now }
@@ -22,7 +22,7 @@ fn newlines(bytes: &[u8]) -> u32
     bytes.iter().filter(|byte| **byte == b'\n').count() as u32
 }
 
-/// The number that digits write, if it is small enough.
+/// Returns the number that the digits spell, if it fits in an `i64`.
 fn value_of(digits: &[u8]) -> Option<i64>
     requires some { 1 ≤ length digits.now }
     requires digits { IsTrue (all_ascii_digits digits.now) }
@@ -32,7 +32,7 @@ fn value_of(digits: &[u8]) -> Option<i64>
     str::from_utf8(digits).unwrap().parse::<i64>().ok()
 }
 
-/// The token of a number.
+/// Returns the token of a number.
 fn number(line: u32, digits: &[u8]) -> Result<What, LexFault>
     requires some { 1 ≤ length digits.now }
     requires digits { IsTrue (all_ascii_digits digits.now) }
@@ -42,7 +42,7 @@ fn number(line: u32, digits: &[u8]) -> Result<What, LexFault>
     Ok(What::Number(value))
 }
 
-/// The token of a word, reserved or not.
+/// Returns the token of a word, reserved or not.
 fn word(line: u32, word: &[u8]) -> Result<What, LexFault>
     requires { 1 ≤ length word.now }
     ensures { result ≡ word_token line word.now }
@@ -56,7 +56,7 @@ fn word(line: u32, word: &[u8]) -> Result<What, LexFault>
     }
 }
 
-/// What a piece of the text is, if it is a token at all.
+/// Returns the sort of token that a piece is, or `None` for a blank or a comment.
 fn read(line: u32, front: Front, bytes: &[u8]) -> Result<Option<What>, LexFault>
     requires some { 1 ≤ length bytes.now }
     requires digits { HasDigitsAlone front bytes.now }
@@ -105,7 +105,7 @@ fn piece(text: &[u8], at: Position) -> Result<(Option<Token>, Position), LexFaul
     Ok((token, next))
 }
 
-/// Puts a token after the others, if there is one.
+/// Appends a token, if there is one.
 fn add(tokens: &mut Tokens, token: Option<Token>) -> Result<(), LexFault>
     ensures added { OnOk result (tokens.new ≡ tokens.old ++ option_to_list token) }
     ensures memory { IfErr result (λ fault. fault ≡ LexFault.Memory) }
@@ -116,14 +116,16 @@ fn add(tokens: &mut Tokens, token: Option<Token>) -> Result<(), LexFault>
     }
 }
 
-/// The tokens of a text of at most 1,048,576 bytes, or its first fault.
+/// Returns the tokens of a text of at most 1,048,576 bytes, or its first fault.
 ///
-/// A word begins with a letter of ASCII or `_` and continues with letters, digits and `_`; a number is made of
-/// decimal digits. At each position the longest match counts. Spaces, tabs, carriage returns, newlines and comments,
-/// which run from `--` to the end of their line and may hold any bytes, separate tokens.
+/// A word begins with an ASCII letter or `_` and continues with letters, digits and `_`; a number
+/// consists of decimal digits. At each position the longest match counts. Spaces, tabs, carriage
+/// returns, newlines and comments, which run from `--` to the end of their line and may contain any
+/// bytes, separate tokens.
 ///
-/// Errors: `Letter` at a byte outside a comment that begins no token, `LongWord` at a word of more than 64 bytes,
-/// `Number` at a number above 9,223,372,036,854,775,807, `Memory` when out of memory.
+/// Errors: `Letter` at a byte outside a comment that begins no token, `LongWord` at a word of more
+/// than 64 bytes, `Number` at a number above 9,223,372,036,854,775,807, `Memory` when out of
+/// memory.
 pub fn lex(alloc: Global, text: &[u8]) -> Result<Tokens, LexFault>
     requires { length text.now ≤ MAX_SPEC_BYTES }
     ensures tokens { IfOk result (λ tokens. tokens_of text.now ≡ Ok tokens) }

@@ -1,7 +1,8 @@
-//! Cuts the text of a specification into tokens.
+//! The lexer of the compiler: it cuts the text of a specification into tokens.
 //!
-//! [`lex`] returns the words, numbers and signs of a text in order, each with its line and its span, or the first
-//! fault of the text. Contracts see the tokens as a list; `tokens_of` in `specs/Tokens.antt` defines which one it is.
+//! [`lex`] returns the words, numbers and signs of a text in order, each with its line and its
+//! span, or the first fault of the text. Contracts see the tokens as a list, which `tokens_of` in
+//! `specs/Tokens.antt` defines.
 //!
 //! ```
 //! let tokens = lex(alloc, b"FTSPEC grant: request -> F[0,3] granted;")?;

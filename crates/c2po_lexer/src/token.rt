@@ -1,4 +1,4 @@
-//! Tokens of a specification.
+//! The tokens of a specification.
 
 ghost use Rattle.std.specs.Prelude.{◌≡◌, length};
 ghost use Rattle.c2po_lexer.specs.Spelling.{keyword_text, keyword_of, sign_text, sign_at};
@@ -8,7 +8,7 @@ use mltl_base::{List, Name};
 /// The tokens of a text in order. No two share a byte.
 pub type Tokens = List<Token>;
 
-/// A token: what it is, its line, counted from 1, and its bytes `start..end` of the text.
+/// A token with its sort, its line, counted from 1, and its bytes `start..end` of the text.
 #[derive(Drop)]
 pub struct Token {
     pub what: What,
@@ -17,7 +17,7 @@ pub struct Token {
     pub end: u32,
 }
 
-/// What a token is.
+/// The sort of a token.
 #[derive(Drop)]
 pub enum What {
     /// A word that isn't reserved.
@@ -163,7 +163,7 @@ impl Keyword {
         Keyword::H,
     ];
 
-    /// The letters of the word.
+    /// Returns the letters of the word.
     pub(crate) fn text(self) -> &'static [u8]
         ensures { result.now ≡ keyword_text self }
     {
@@ -193,7 +193,7 @@ impl Keyword {
         }
     }
 
-    /// The reserved word with these letters, if there is one.
+    /// Returns the reserved word with these letters, if there is one.
     pub(crate) fn of(word: &[u8]) -> Option<Keyword>
         ensures { result ≡ keyword_of word.now }
     {
@@ -205,7 +205,7 @@ impl Keyword {
 }
 
 impl Sign {
-    /// Longer signs come first.
+    /// All signs, longer ones first.
     const ALL: [Sign; 28] = [
         Sign::Iff,
         Sign::Implies,
@@ -237,7 +237,7 @@ impl Sign {
         Sign::Percent,
     ];
 
-    /// The bytes of the sign.
+    /// Returns the bytes of the sign.
     pub(crate) fn text(self) -> &'static [u8]
         ensures { result.now ≡ sign_text self }
     {
@@ -273,7 +273,7 @@ impl Sign {
         }
     }
 
-    /// The longest sign that a text begins with, if there is one.
+    /// Returns the longest sign at the front of a text, if there is one.
     pub(crate) fn at_front(text: &[u8]) -> Option<Sign>
         ensures { result ≡ sign_at text.now }
     {
