@@ -1,4 +1,4 @@
--- What the calls of C return, over what C keeps: the state of a monitor, if one is open.
+-- Results of the calls of C, over the state of a monitor, if one is open.
 
 use Rattle.std.specs.Prelude.{ℕ, ◌≡◌, Option, Some, None, Result, Ok, Err, List, ◌∷◌}
 use Rattle.mltl_base.specs.declared.program.Program.{Program}
@@ -20,7 +20,7 @@ use Rattle.r2u2_c.specs.Faults.{opening_fault}
 use Rattle.r2u2_c.specs.Opening.{IsFresh, Starts}
 use Rattle.r2u2_c.specs.Reports.{shown}
 
--- none was open, and now a fresh monitor of the program that was found is
+-- no monitor was open, and a fresh monitor of the program that was found is open now
 abbrev pub Opens : Result Program OpeningFault → Option State → Option State → Type 0
 Opens found None (Some monitor) = Starts found monitor
 Opens found None None = ⊥
@@ -31,19 +31,19 @@ abbrev pub Refuses : Result Program OpeningFault → Fault → Type 0
 Refuses (Err why) fault = fault ≡ opening_fault why
 Refuses (Ok program) fault = ⊥
 
--- the monitor that is open is one of the same program that has taken no rows, and has no report to give
+-- the open monitor has the same program, has taken no rows, and has no report to return
 abbrev pub BeginsAgain : Option State → Option State → Type 0
 BeginsAgain (Some before) (Some after) = IsFresh (program_of before) after
 BeginsAgain (Some before) None = ⊥
 BeginsAgain None after = ⊥
 
--- the monitor that is open has taken the row
+-- the open monitor has taken the row
 abbrev pub Takes : Row → Option State → Option State → Type 0
 Takes row (Some before) (Some after) = TakesRow row before after
 Takes row (Some before) None = ⊥
 Takes row None after = ⊥
 
--- after the row was taken, at most as many reports are open as the program says
+-- after the row was taken, at most as many reports are open as the program allows
 abbrev pub BringsFew : Row → Option State → Option State → Type 0
 BringsFew row (Some before) (Some after) = OpensFew row before after
 BringsFew row (Some before) None = ⊥
@@ -67,7 +67,7 @@ pub record IsHeldBack (code : ℕ) (read : RowWhy) (row : Row) (before : Option 
   pub code_is : code ≡ read.why
   pub held : HoldsBack cause row before
 
--- what C reads is the first report that was open, and the others still are, after the same rows
+-- C reads the first report that was open; the other reports are still open, after the same rows
 pub record TellsFirst (style : Style) (read : Told) (before after : State) : Type 0 where
   pub report : Report
   pub shown_as : read ≡ shown report
@@ -75,7 +75,7 @@ pub record TellsFirst (style : Style) (read : Told) (before after : State) : Typ
   pub stands : (rows : List Row) → Stands before rows → Stands after rows
   pub gives : HasGiven report before after
 
--- the open monitor has returned it
+-- the open monitor has returned this report
 abbrev pub Reports : Style → Told → Option State → Option State → Type 0
 Reports style read (Some before) (Some after) = TellsFirst style read before after
 Reports style read (Some before) None = ⊥

@@ -1,4 +1,4 @@
--- What C reads of the fault of an opening: its kind, its place and its text.
+-- The fault of an opening as C reads it: its kind, its place and its text.
 
 use Rattle.std.specs.Prelude.{ℕ, List, ◌++◌, codes, drop, length, replicate}
 use Rattle.mltl_base.specs.declared.interval.Part as part
@@ -11,7 +11,7 @@ use Rattle.r2u2_c.specs.declared.opened.OpeningFault.{OpeningFault}
 use Rattle.r2u2_c.specs.declared.opened.OpeningFault.TheVariants.{Program, NoSignals, LongHeader}
 use Rattle.r2u2_c.specs.declared.opened.OpeningFault.TheVariants.{NoHeader, Missing, Twice, Memory}
 
--- what is wrong, in words
+-- the message of a fault
 abbrev pub opening_text : OpeningFault → List ℕ
 opening_text (Program f) = fault_text f
 opening_text NoSignals = codes "no signals"
@@ -42,7 +42,7 @@ fault_kind (fault.TheVariants.Output k) = 16
 fault_kind (fault.TheVariants.Size p i) = 17
 fault_kind fault.TheVariants.TooManySlots = 18
 
--- and each other fault of an opening
+-- each other fault of an opening has a distinct number
 abbrev pub opening_kind : OpeningFault → ℕ
 opening_kind (Program f) = fault_kind f
 opening_kind NoSignals = 19
@@ -58,19 +58,19 @@ part_number part.TheVariants.Bz = 1
 part_number part.TheVariants.Ft = 2
 part_number part.TheVariants.Pt = 3
 
--- the part where a fault of a program is, 0 where it has none
+-- the part of the program with the fault, or 0 if the fault is in no part
 abbrev pub fault_part : fault.ProgramFault → ℕ
 fault_part (fault.TheVariants.Operand p i) = part_number p
 fault_part (fault.TheVariants.Interval p i) = part_number p
 fault_part (fault.TheVariants.Size p i) = part_number p
 fault_part f = 0
 
--- the same of an opening
+-- the part with the fault of an opening, or 0 if the fault is in no part
 abbrev pub part_of : OpeningFault → ℕ
 part_of (Program f) = fault_part f
 part_of why = 0
 
--- the byte, the instruction, the output or the signal where the fault is; 0 where it has no place
+-- the byte, the instruction, the output or the signal with the fault, or 0 if the fault has no place
 abbrev pub fault_place : fault.ProgramFault → ℕ
 fault_place (fault.TheVariants.Reserved at) = at
 fault_place (fault.TheVariants.Opcode at) = at
@@ -86,7 +86,7 @@ fault_place (fault.TheVariants.Output k) = k
 fault_place (fault.TheVariants.Size p i) = i
 fault_place f = 0
 
--- the same of an opening
+-- the place of the fault of an opening, or 0 if it has none
 abbrev pub opening_place : OpeningFault → ℕ
 opening_place (Program f) = fault_place f
 opening_place why = 0
@@ -95,7 +95,7 @@ opening_place why = 0
 abbrev pub padded : List ℕ → List ℕ
 padded text = text ++ drop (length text) (replicate 96 0)
 
--- what C reads of the fault of an opening
+-- the fault of an opening as C reads it
 abbrev pub opening_fault : OpeningFault → Fault
 opening_fault why = record {
   kind = opening_kind why;

@@ -1,4 +1,4 @@
--- What a handle owns.
+-- The memory that a handle owns.
 
 use Rattle.std.specs.Prelude.{Option, Some, None}
 use base.Fml.{Fml, ftrue, ffalse}
@@ -13,7 +13,7 @@ use Rattle.r2u2_monitor.specs.contracts.monitor.Monitor.{the_row}
 abbrev pub heap : Global
 heap = record { memory = record { seal = tt } }
 
--- at null there is no monitor and nothing owned, and elsewhere a box on the heap with the monitor
+-- a handle at null has no monitor and owns nothing; any other handle owns a box on the heap with the monitor
 abbrev pub handle_owns : Ptr → Option State → Fml
 handle_owns null_ptr None = ftrue
 handle_owns null_ptr (Some monitor) = ffalse

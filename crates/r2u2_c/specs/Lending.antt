@@ -1,4 +1,4 @@
--- What was taken out of a handle, once a borrow of its monitor is over.
+-- A monitor that was taken out of a handle, when a borrow of it ends.
 
 use Rattle.std.specs.Borrow.{Lends, MutBor, Fml}
 use Rattle.r2u2_monitor.specs.declared.state.State.{State}
@@ -6,10 +6,10 @@ use Rattle.r2u2_monitor.specs.contracts.monitor.Monitor as monitor
 use Rattle.r2u2_c.specs.declared.handle.Held.{Held}
 use Rattle.r2u2_c.specs.contracts.handle.Held as held
 
--- the same with this monitor
+-- the held monitor in this state
 abbrev pub with_monitor : Held → State → Held
 with_monitor h m = record h { monitor = record h.monitor { value = m } }
 
--- once the borrow r ends, it has the monitor that was written through r
+-- when the borrow r ends, h has the monitor that was written through r
 abbrev pub lends_monitor : MutBor Held → MutBor State → Fml
 lends_monitor h r = Lends held.the_row monitor.the_row h r (with_monitor h.now)

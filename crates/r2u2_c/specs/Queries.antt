@@ -1,4 +1,4 @@
--- What C may ask, over what it keeps: the state of a monitor, if one is open.
+-- Facts that C reads of the state of a monitor, if one is open.
 
 use Rattle.std.specs.Prelude.{ℕ, ◌≡◌, ◌+◌, Result, Ok, Err, Bool, true, false, Option, Some, None, List, [], ◌∷◌, ◌++◌}
 use Rattle.std.specs.Prelude.{drop, length, map}
@@ -45,8 +45,8 @@ abbrev pub open_signals : Option State → List StoredSignal
 open_signals (Some monitor) = (program_of monitor).signals
 open_signals None = []
 
--- what may be read of a monitor without it: how many rows it has taken, how many columns, outputs and signals its
--- program has, and how many steps and reports a row takes and brings at most; 0 where none is open
+-- the counts that are read without the monitor: the rows it has taken, the columns, outputs and signals of its program, and
+-- the most steps and reports of a row; 0 if none is open
 pub record MirrorsMonitor (monitor : Option State) (taken columns outs stored work most : ℕ) : Type 0 where
   pub rows : taken ≡ open_rows monitor
   pub width : columns ≡ open_width monitor
@@ -60,7 +60,7 @@ abbrev pub open_delays : Option State → List ℕ
 open_delays (Some monitor) = map delay (outputs (program_of monitor))
 open_delays None = []
 
--- each kind of output has a number of its own
+-- each kind of output has a distinct number
 abbrev pub output_number : out.Out → ℕ
 output_number (out.TheVariants.Formula engine i name) = 1
 output_number (out.TheVariants.Contract engine i j name) = 2
@@ -75,23 +75,23 @@ abbrev pub kind_number : Bool → ℕ
 kind_number false = 0
 kind_number true = 1
 
--- a signal's column and kind were returned
+-- the call returned the column and the kind of the signal
 pub record TellsSignal (signal : StoredSignal) (column kind : ℕ) : Type 0 where
   pub stands_in : column ≡ signal.column
   pub is_kind : kind ≡ kind_number signal.truth
 
--- the first byte, if there is one, is zero now
+-- the bytes with a zero as their first, if there is one
 abbrev pub ended : List ℕ → List ℕ
 ended [] = []
 ended (byte ∷ more) = 0 ∷ more
 
--- the result is the name's length, and the name is at the start of the buffer, before a zero byte where it fits; what
--- follows stays
+-- the result is the name's length, and the name is at the start of the buffer, before a zero byte if it fits; the bytes
+-- after it stay
 pub record WritesName (name : List ℕ) (answer : ℕ) (before after : List ℕ) : Type 0 where
   pub long : answer ≡ length name
   pub written : after ≡ name ++ ended (drop (length name) before)
 
--- the bytes of a monitor of the program that was found: of its block, and of its lists
+-- the number is the bytes of a monitor of the program that was found: of its block, and of its lists
 abbrev pub TellsBytes : Result Program OpeningFault → ℕ → Type 0
 TellsBytes (Ok program) told = told ≡ MONITOR_BYTES + monitor_bytes program
 TellsBytes (Err why) told = ⊥

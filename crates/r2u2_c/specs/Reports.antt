@@ -1,4 +1,4 @@
--- How reports are shown to C.
+-- Reports as C reads them.
 
 use Rattle.std.specs.Prelude.{ℕ, ◌==◌, if◌then◌else◌}
 use Rattle.mltl_base.specs.declared.report.Report.{Report}

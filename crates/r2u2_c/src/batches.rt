@@ -1,4 +1,4 @@
-//! Calls of C that do the work of several.
+//! Calls of C that do the work of several calls.
 
 ghost use Rattle.std.specs.Prelude.{◌≡◌, ◌↔◌, ◌<◌, [], ◌∷◌, Contains, IsSomeAnd, None, drop, length, take};
 ghost use Rattle.r2u2_monitor.specs.Monitoring.{IsDrained};
@@ -11,18 +11,19 @@ use crate::handle::FreeOnly;
 use crate::report::{Told, next_of};
 use r2u2_monitor::Monitor;
 
-/// How much one call did, as C reads it.
+/// The counts of rows and reports of one call, as C reads them.
 #[repr(C)]
 #[derive(Clone, Copy)]
 pub struct Batch {
-    /// How many rows it took.
+    /// The number of rows that the call took.
     pub rows: usize,
-    /// How many reports it wrote.
+    /// The number of reports that the call wrote.
     pub reports: usize,
 }
 
-/// Gives the next reports of the rows so far, as many as there is room for: those that `r2u2_next` gives one by one.
-/// `count` says how many; where they are fewer than there is room for, none is left.
+/// Writes the next reports of the rows so far, as many as there is room for, in the order in which
+/// `r2u2_next` returns them. `count` is their number; if it is less than the room, no report is
+/// left.
 #[unsafe(no_mangle)]
 pub extern "C" fn r2u2_next_many(
     it: &mut R2u2,
@@ -51,7 +52,7 @@ pub extern "C" fn r2u2_next_many(
     }
 }
 
-/// Writes the next reports to the front of a slice, and returns how many there were.
+/// Writes the next reports to the front of a slice, and returns their number.
 pub(crate) fn fill(monitor: &mut Monitor, runs: u32, reports: &mut [Told]) -> usize
     ensures tells { TellsEach (style_of runs) (take result reports.new) monitor.old monitor.new }
     ensures front { WritesFront result reports.old reports.new }

@@ -1,4 +1,4 @@
-//! How many bytes a monitor takes.
+//! The number of bytes that a monitor takes.
 
 ghost use Rattle.std.specs.Prelude.{◌≡◌, ◌≢◌, ◌∷◌, [], Contains, IfErr, IfOk, Err};
 ghost use Rattle.r2u2_c.specs.Exports.{Refuses};
@@ -14,8 +14,8 @@ use r2u2_monitor::bytes::MONITOR_BYTES;
 use r2u2_monitor::monitor_bytes;
 use std::alloc::Global;
 
-/// Tells how many bytes a monitor of the program that these bytes spell holds while it is open, in all its blocks
-/// together.
+/// Writes the number of bytes that a monitor of the program in these bytes holds while it is open,
+/// in all its blocks together, to `told`.
 #[unsafe(no_mangle)]
 pub extern "C" fn r2u2_bytes(alloc: Global, bytes: &[u8], told: &mut u64, fault: &mut Fault) -> u32
     ensures tells { result ≡ DONE → TellsBytes (opened_by bytes.now) told.new }
@@ -33,7 +33,7 @@ pub extern "C" fn r2u2_bytes(alloc: Global, bytes: &[u8], told: &mut u64, fault:
     }
 }
 
-/// How many bytes a monitor of the program that these bytes spell holds.
+/// Returns the number of bytes that a monitor of the program in these bytes holds.
 fn bytes_of(alloc: Global, bytes: &[u8]) -> Result<u64, OpeningFault>
     ensures told { IfOk result (λ count. TellsBytes (opened_by bytes.now) count) }
     ensures refused { IfErr result (λ why. why ≢ OpeningFault.Memory

@@ -1,4 +1,4 @@
-//! What C keeps of a monitor.
+//! The struct that C keeps for a monitor.
 
 ghost use Rattle.std.specs.Prelude.{◌≡◌, Some, length};
 ghost use Rattle.r2u2_c.specs.Queries.{MirrorsMonitor, open_most_reports, open_names, open_signals, open_width, steps_of};
@@ -8,8 +8,8 @@ use r2u2_monitor::{Monitor, most_reports, row_work};
 use std::alloc::Global;
 use std::mem;
 
-/// What C keeps: a monitor, or none, and what may be read of it without it. Contracts see the monitor's
-/// state as `handle.value`.
+/// The struct that C keeps: a monitor, or none, and the counts that are read without it. Contracts
+/// see the monitor's state as `handle.value`.
 #[repr(C)]
 pub struct R2u2 {
     pub handle: Handle,
@@ -76,7 +76,7 @@ impl R2u2 {
         handle.into_held(free)
     }
 
-    /// Puts a monitor in, and frees one that was open.
+    /// Puts a monitor in, and frees the monitor that was open.
     pub(crate) fn put(&mut self, monitor: Box<Monitor>)
         ensures { self.new.handle.value ≡ Some monitor.value }
     {
@@ -87,7 +87,7 @@ impl R2u2 {
         }
     }
 
-    /// Whether a monitor is open.
+    /// Returns true if a monitor is open.
     pub(crate) fn is_open(&mut self, alloc: Global) -> bool
         ensures open { IsTrue result ↔ IsSome self.old.handle.value }
         ensures kept { self.new.handle.value ≡ self.old.handle.value }
@@ -110,42 +110,42 @@ impl R2u2 {
         }
     }
 
-    /// The number of rows that the monitor has taken; 0 where none is open.
+    /// Returns the number of rows that the monitor has taken, or 0 if none is open.
     pub(crate) fn rows(&self) -> u64
         ensures { result ≡ open_rows self.now.handle.value }
     {
         self.rows
     }
 
-    /// The number of columns of a row; 0 where none is open.
+    /// Returns the number of columns of a row, or 0 if no monitor is open.
     pub(crate) fn width(&self) -> u32
         ensures { result ≡ open_width self.now.handle.value }
     {
         self.width
     }
 
-    /// The number of outputs; 0 where none is open.
+    /// Returns the number of outputs, or 0 if no monitor is open.
     pub(crate) fn outputs(&self) -> u32
         ensures { result ≡ length (open_names self.now.handle.value) }
     {
         self.outputs
     }
 
-    /// The number of signals that the program stores; 0 where none is open.
+    /// Returns the number of signals that the program stores, or 0 if no monitor is open.
     pub(crate) fn signals(&self) -> u32
         ensures { result ≡ length (open_signals self.now.handle.value) }
     {
         self.signals
     }
 
-    /// The most steps of one row; 0 where none is open.
+    /// Returns the most steps of one row, or 0 if no monitor is open.
     pub(crate) fn steps(&self) -> u64
         ensures { result ≡ steps_of self.now.handle.value }
     {
         self.steps
     }
 
-    /// The most reports of one row; 0 where none is open.
+    /// Returns the most reports of one row, or 0 if no monitor is open.
     pub(crate) fn most_reports(&self) -> u64
         ensures { result ≡ open_most_reports self.now.handle.value }
     {

@@ -1,4 +1,4 @@
-//! Programs that are opened only where they have the digest that they were made with.
+//! Programs that are opened only if they have the expected digest.
 
 ghost use Rattle.std.specs.Prelude.{◌≡◌, ◌≢◌, ◌↔◌, ◌<◌, [], ◌∷◌, Contains, IsSome, IsTrue};
 ghost use Rattle.sha2.specs.Sha256.{sha256};
@@ -12,14 +12,14 @@ use crate::fault::Fault;
 use sha2::{Digest, Sha256};
 use std::alloc::Global;
 
-/// The 32 bytes of a SHA-256.
+/// The 32 bytes of a SHA-256 digest.
 #[repr(C)]
 #[derive(Clone, Copy)]
 pub struct ProgramDigest {
     pub bytes: [u8; 32],
 }
 
-/// Opens the program that these bytes spell, as `r2u2_open` does, where their SHA-256 is the digest.
+/// Opens the program in these bytes, as `r2u2_open` does, if their SHA-256 is the digest.
 #[unsafe(no_mangle)]
 pub extern "C" fn r2u2_open_checked(
     it: &mut R2u2,
@@ -48,7 +48,7 @@ pub extern "C" fn r2u2_open_checked(
     r2u2_open(it, alloc, bytes, fault)
 }
 
-/// Whether the SHA-256 of these bytes is the digest.
+/// Returns true if the SHA-256 of these bytes is the digest.
 fn has_digest(bytes: &[u8], digest: &ProgramDigest) -> bool
     ensures { IsTrue result ↔ (sha256 bytes.now ≡ digest.now.bytes) }
 {

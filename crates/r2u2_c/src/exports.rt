@@ -1,4 +1,4 @@
-//! The calls of C.
+//! Calls of C that open, run and close a monitor.
 
 ghost use Rattle.std.specs.Prelude.{◌≡◌, ◌≢◌, ◌↔◌, ◌<◌, ◌≤◌, [], ◌∷◌, Contains, IsSome, IsSomeAnd, IfErr, IfOk, None};
 ghost use Rattle.r2u2_monitor.specs.Monitoring.{IsDrained};
@@ -21,7 +21,7 @@ use crate::row_why::RowWhy;
 use r2u2_monitor::RowFault;
 use std::alloc::Global;
 
-/// Opens the program that these bytes spell. Rows have the columns that it was compiled for.
+/// Opens the program in these bytes. Rows have the columns that it was compiled for.
 #[unsafe(no_mangle)]
 pub extern "C" fn r2u2_open(it: &mut R2u2, alloc: Global, bytes: &[u8], fault: &mut Fault) -> u32
     ensures opens { result ≡ DONE
@@ -44,7 +44,7 @@ pub extern "C" fn r2u2_open(it: &mut R2u2, alloc: Global, bytes: &[u8], fault: &
     }
 }
 
-/// The same with the program's signals in the columns that a header line names.
+/// Opens the program in these bytes, with its signals in the columns that a header line names.
 #[unsafe(no_mangle)]
 pub extern "C" fn r2u2_open_under(
     it: &mut R2u2,
@@ -73,7 +73,7 @@ pub extern "C" fn r2u2_open_under(
     }
 }
 
-/// Tells why no monitor was opened.
+/// Writes the fault of an opening, and returns its code.
 pub(crate) fn refuse(why: OpeningFault, fault: &mut Fault) -> u32
     ensures memory { why ≡ Memory → (result ≡ NO_MEMORY) × (fault.new ≡ fault.old) }
     ensures refused { why ≢ Memory → (result ≡ REFUSED) × (fault.new ≡ opening_fault why) }
@@ -87,7 +87,7 @@ pub(crate) fn refuse(why: OpeningFault, fault: &mut Fault) -> u32
     }
 }
 
-/// Takes the next row, with one number for each column, or returns why it isn't taken.
+/// Takes the next row, with one number for each column, or returns the code of the fault.
 #[unsafe(no_mangle)]
 pub extern "C" fn r2u2_row(it: &mut R2u2, free: FreeOnly, fields: &[i64], why: &mut RowWhy) -> u32
     ensures takes { result ≡ DONE → Takes fields.now it.old.handle.value it.new.handle.value }
@@ -111,7 +111,7 @@ pub extern "C" fn r2u2_row(it: &mut R2u2, free: FreeOnly, fields: &[i64], why: &
     }
 }
 
-/// Tells whether a row was taken, and why not.
+/// Returns the code of a row that was taken or refused, and writes the cause of a refusal.
 #[inline(always)]
 pub(crate) fn tell_taken(taken: Result<(), RowFault>, why: &mut RowWhy) -> u32
     ensures done { IfOk taken (λ _. (result ≡ DONE) × (why.new ≡ why.old)) }
@@ -126,7 +126,8 @@ pub(crate) fn tell_taken(taken: Result<(), RowFault>, why: &mut RowWhy) -> u32
     }
 }
 
-/// Gives the next report of the rows so far: of each time where `runs` is 0, else of each longest stretch of one word.
+/// Writes the next report of the rows so far: of each time if `runs` is 0, else of each longest
+/// stretch of one word.
 #[unsafe(no_mangle)]
 pub extern "C" fn r2u2_next(it: &mut R2u2, free: FreeOnly, runs: u32, report: &mut Told) -> u32
     ensures tells { result ≡ DONE

@@ -12,18 +12,18 @@ use obs_binary::ProgramFault;
 #[repr(C)]
 #[derive(Clone, Copy)]
 pub struct Fault {
-    /// Which one, from 1 to 23; `include/r2u2.h` names them.
+    /// The kind, from 1 to 23; `include/r2u2.h` names them.
     pub kind: u32,
-    /// The part of the program: 1 bz, 2 ft, 3 pt; 0 where it has none.
+    /// The part of the program: 1 bz, 2 ft, 3 pt; 0 if the fault is in no part.
     pub part: u32,
-    /// The byte, instruction, output or signal where it is, counted from 0.
+    /// The byte, instruction, output or signal with the fault, counted from 0.
     pub place: u64,
-    /// What is wrong, with zeros after it.
+    /// The message, with zeros after it.
     pub text: [u8; 96],
 }
 
 impl Fault {
-    /// The fault of an opening as C reads it.
+    /// Returns the fault of an opening as C reads it.
     pub(crate) fn of(why: &OpeningFault) -> Fault
         ensures { result ≡ opening_fault why.now }
     {

@@ -1,4 +1,4 @@
-//! Faults of openings in words.
+//! Messages for the faults of openings.
 
 ghost use Rattle.std.specs.Prelude.{◌≡◌};
 ghost use Rattle.r2u2_c.specs.Faults.{opening_text};
@@ -7,7 +7,7 @@ use crate::opened::OpeningFault;
 use arrayvec::ArrayVec;
 use mltl_base::text::add;
 
-/// What is wrong, in words: at most 77 bytes.
+/// Returns the message of a fault, which has at most 77 bytes.
 pub(crate) fn text_of_fault(why: &OpeningFault) -> ArrayVec<u8, 95>
     ensures { result.items ≡ opening_text why.now }
 {

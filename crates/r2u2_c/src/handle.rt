@@ -15,15 +15,16 @@ use std::marker::Model;
 use std::mem;
 use std::ptr::null_mut;
 
-/// The address of a monitor, or null where none is open. It owns the monitor, whose state contracts see as `value`.
+/// The address of a monitor, or null if none is open. It owns the monitor, whose state contracts
+/// see as `value`.
 #[repr(C)]
 pub struct Handle {
     at: *mut u8,
     pub ghost value: { Maybe State } by { coded_option the_row.coded },
 }
 
-/// The heap as a call has it that allocates nothing: by it a handle's monitor is taken out and freed. Only this file sees the
-/// allocator in it. It has no bytes, so C passes nothing for it.
+/// The heap for a call that allocates nothing: with it, the monitor of a handle is taken out and
+/// freed. Only this file sees the allocator in it. It has no bytes, so C passes nothing for it.
 #[repr(C)]
 #[derive(Clone, Copy)]
 pub struct FreeOnly {
@@ -31,20 +32,20 @@ pub struct FreeOnly {
 }
 
 impl FreeOnly {
-    /// The heap, to free alone.
+    /// Restricts the heap to freeing.
     pub(crate) fn of(heap: Global) -> FreeOnly {
         FreeOnly { heap }
     }
 }
 
-/// A monitor that was taken out of its handle. It is put back or freed, since it can't be dropped, and it shows the monitor
-/// without its box, which has an allocator.
+/// A monitor that was taken out of its handle. It is put back or freed, since it can't be dropped.
+/// It shows the monitor without its box, which has an allocator.
 pub(crate) struct Held {
     monitor: Box<Monitor>,
 }
 
 impl Held {
-    /// The monitor.
+    /// Returns the monitor.
     #[inline(always)]
     pub(crate) fn get(&self) -> &Monitor
         ensures { result.now ≡ self.now.monitor.value }
@@ -52,7 +53,7 @@ impl Held {
         &self.monitor
     }
 
-    /// The monitor, to be changed in place.
+    /// Returns the monitor, to be changed in place.
     #[inline(always)]
     pub(crate) fn get_mut(&mut self) -> &mut Monitor
         ensures* writes_back { sem 𝓛 (lends_monitor self.entry result) }
@@ -72,7 +73,8 @@ impl Model for Handle {
     ghost also_owns = { λ it. handle_owns it.at it.value };
 }
 
-// What it owns says the same to every thread, so one thread may open it and another take rows.
+// The monitor that it owns is the same to every thread, so one thread may open it and another take
+// rows.
 unsafe impl Send for Handle {}
 
 impl Handle {
@@ -124,7 +126,7 @@ impl Handle {
         mem::replace(self, Handle::empty()).into_held(free)
     }
 
-    /// Puts a monitor in, where none is. That there is none is proved, so nothing tests it.
+    /// Puts a monitor into an empty handle. That it is empty is proved, so nothing tests it.
     #[inline(always)]
     pub(crate) fn put(&mut self, held: Held)
         requires empty { self.old.value ≡ None }
@@ -134,7 +136,7 @@ impl Handle {
         mem::replace(self, Handle::with(monitor)).let_go();
     }
 
-    /// Lets a handle go at which none is open. That none is, is proved, so nothing tests it.
+    /// Drops an empty handle. That it is empty is proved, so nothing tests it.
     #[inline(always)]
     fn let_go(self)
         requires empty { self.value ≡ None }
@@ -142,7 +144,7 @@ impl Handle {
         let Handle { at: _ } = self;
     }
 
-    /// A monitor, which it owns from now on.
+    /// Makes a handle that owns this monitor.
     pub(crate) fn with(monitor: Box<Monitor>) -> Handle
         ensures { result.value ≡ Some monitor.value }
     {

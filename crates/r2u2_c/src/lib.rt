@@ -1,8 +1,10 @@
-//! The monitor as a library for C: `include/r2u2.h` declares its calls, and says what a caller in C owes.
+//! The monitor as a library for C. `include/r2u2.h` declares its calls and the duties of a caller
+//! in C.
 //!
-//! C keeps a struct [`R2u2`], all zero at first, and passes its address to each call; for an allocator, which has no
-//! bytes, it passes nothing. At every code of [`codes`] above 0 the monitor is unchanged, and nothing but a fault is
-//! written. All memory is allocated when a program is opened.
+//! C keeps a struct [`R2u2`], all zero at first, and passes its address to each call. It passes
+//! nothing for an allocator, which has no bytes. If a call returns a code of [`codes`] above 0, the
+//! monitor is unchanged, and nothing but a fault is written. All memory is allocated when a program
+//! is opened.
 #![tactic(auto)]
 
 mod batches;

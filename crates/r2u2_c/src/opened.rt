@@ -13,20 +13,21 @@ use r2u2_monitor::Monitor;
 use std::alloc::{AllocError, Global};
 use trace_columns::{HeaderFault, bind_to_header};
 
-/// Why no monitor is opened.
+/// The fault of an opening.
 #[derive(Drop)]
 pub enum OpeningFault {
-    /// This is wrong with the program.
+    /// The program has this fault.
     Program(ProgramFault),
-    /// A header was given, and the program stores no signals, being of version 1.
+    /// A header was given, but the program is of version 1, and stores no signals.
     NoSignals,
     /// The header has more than 65,535 bytes.
     LongHeader,
     /// The header doesn't begin with `#`.
     NoHeader,
-    /// The first signal that doesn't occur exactly once in the header doesn't occur there.
+    /// This signal is the first that doesn't occur exactly once in the header. It is missing there.
     Missing(Name),
-    /// The first signal that doesn't occur exactly once in the header occurs more than once.
+    /// This signal is the first that doesn't occur exactly once in the header. It occurs there more
+    /// than once.
     Twice(Name),
     /// Out of memory.
     Memory,
@@ -66,7 +67,7 @@ impl From<AllocError> for OpeningFault {
     }
 }
 
-/// The monitor of the program that these bytes spell.
+/// Returns a monitor of the program in these bytes.
 pub(crate) fn open_monitor(alloc: Global, bytes: &[u8]) -> Result<Box<Monitor>, OpeningFault>
     ensures opened { IfOk result (λ b. Starts (opened_by bytes.now) b.value) }
     ensures refused { IfErr result (λ why. why ≢ OpeningFault.Memory
@@ -75,7 +76,8 @@ pub(crate) fn open_monitor(alloc: Global, bytes: &[u8]) -> Result<Box<Monitor>, 
     Ok(load(alloc, open(alloc, bytes)?)?)
 }
 
-/// The same with the program's signals in the columns that a header names.
+/// Returns a monitor of the program in these bytes, with its signals in the columns that a header
+/// names.
 pub(crate) fn open_under(
     alloc: Global,
     bytes: &[u8],
@@ -90,7 +92,7 @@ pub(crate) fn open_under(
     Ok(load(alloc, bound)?)
 }
 
-/// A program with its signals in the columns that a header names.
+/// Binds the signals of a program to the columns that a header names.
 fn bind(alloc: Global, checked: Checked, header: &[u8]) -> Result<Checked, OpeningFault>
     ensures bound { IfOk result (λ bound. bound_by header.now checked ≡ Ok bound) }
     ensures refused { IfErr result (λ why. why ≢ OpeningFault.Memory
@@ -100,7 +102,7 @@ fn bind(alloc: Global, checked: Checked, header: &[u8]) -> Result<Checked, Openi
     Ok(bind_to_header(alloc, checked, header)?)
 }
 
-/// Whether a program stores signals, and a header is short enough to name their columns.
+/// Checks that a program stores signals, and that a header is short enough to name their columns.
 fn takes_header(program: &Program, header: &[u8]) -> Result<(), OpeningFault>
     ensures stored { OnOk result (program.now.version ≡ 2) }
     ensures short { OnOk result (length header.now < MAX_LINE_BYTES) }
@@ -115,7 +117,7 @@ fn takes_header(program: &Program, header: &[u8]) -> Result<(), OpeningFault>
     Ok(())
 }
 
-/// Makes a monitor in separate memory.
+/// Makes a monitor in a block of its own.
 fn load(alloc: Global, checked: Checked) -> Result<Box<Monitor>, AllocError>
     ensures starts { IfOk result (λ b. Starts (Ok checked) b.value) }
 {

@@ -1,4 +1,4 @@
-//! What C may ask of a monitor. None of these calls changes it.
+//! Calls of C that return facts of a monitor. None of these calls changes it.
 
 ghost use Rattle.std.specs.Prelude.{◌≡◌, ◌↔◌, ◌<◌, ◌≤◌, IsSomeAnd, Some, length, slice_get, slice_index};
 ghost use Rattle.r2u2_c.specs.Queries.{TellsSignal, WritesName, open_delays, open_most_reports, open_names, output_kinds_of, output_number, open_rows, open_signals, steps_of, open_width};
@@ -10,7 +10,7 @@ use crate::version::VERSION;
 use mltl_base::{Out, StoredSignal};
 use r2u2_monitor::{Monitor, delay_of};
 
-/// The version of the library.
+/// Returns the version of the library.
 #[unsafe(no_mangle)]
 pub extern "C" fn r2u2_version() -> u32
     ensures { result ≡ VERSION }
@@ -18,7 +18,7 @@ pub extern "C" fn r2u2_version() -> u32
     VERSION
 }
 
-/// The number of columns of a row; 0 where none is open.
+/// Returns the number of columns of a row, or 0 if no monitor is open.
 #[unsafe(no_mangle)]
 pub extern "C" fn r2u2_width(it: &R2u2) -> u32
     ensures { result ≡ open_width it.now.handle.value }
@@ -26,7 +26,7 @@ pub extern "C" fn r2u2_width(it: &R2u2) -> u32
     it.width()
 }
 
-/// The number of outputs; 0 where none is open.
+/// Returns the number of outputs, or 0 if no monitor is open.
 #[unsafe(no_mangle)]
 pub extern "C" fn r2u2_outputs(it: &R2u2) -> u32
     ensures { result ≡ length (open_names it.now.handle.value) }
@@ -54,7 +54,7 @@ pub extern "C" fn r2u2_name(it: &mut R2u2, free: FreeOnly, k: u32, buffer: &mut 
     }
 }
 
-/// The number of rows that were taken; 0 where none is open.
+/// Returns the number of rows that were taken, or 0 if no monitor is open.
 #[unsafe(no_mangle)]
 pub extern "C" fn r2u2_rows(it: &R2u2) -> u64
     ensures { result ≡ open_rows it.now.handle.value }
@@ -62,7 +62,8 @@ pub extern "C" fn r2u2_rows(it: &R2u2) -> u64
     it.rows()
 }
 
-/// Returns the worst-case delay of output `k`, in rows; 0 where none is open or there is no such output.
+/// Returns the worst-case delay of output `k`, in rows, or 0 if no monitor is open or there is no
+/// such output.
 #[unsafe(no_mangle)]
 pub extern "C" fn r2u2_delay(it: &mut R2u2, free: FreeOnly, k: u32) -> u32
     ensures delay { result ≡ slice_index (open_delays it.old.handle.value) k }
@@ -78,7 +79,8 @@ pub extern "C" fn r2u2_delay(it: &mut R2u2, free: FreeOnly, k: u32) -> u32
     }
 }
 
-/// The most steps of one row, from the question whether it can be taken to the last of its reports; 0 where none is open.
+/// Returns the most steps of one row, from the check of the row to the last of its reports, or 0 if
+/// no monitor is open.
 #[unsafe(no_mangle)]
 pub extern "C" fn r2u2_steps(it: &R2u2) -> u64
     ensures { result ≡ steps_of it.now.handle.value }
@@ -86,7 +88,7 @@ pub extern "C" fn r2u2_steps(it: &R2u2) -> u64
     it.steps()
 }
 
-/// The most reports that one row brings, in either style; 0 where none is open.
+/// Returns the most reports that one row brings, in either style, or 0 if no monitor is open.
 #[unsafe(no_mangle)]
 pub extern "C" fn r2u2_most_reports(it: &R2u2) -> u64
     ensures { result ≡ open_most_reports it.now.handle.value }
@@ -94,7 +96,8 @@ pub extern "C" fn r2u2_most_reports(it: &R2u2) -> u64
     it.most_reports()
 }
 
-/// The kind of output `k`: 1 a formula, 2 an assume-guarantee contract; 0 where none is open or there is no such output.
+/// Returns the kind of output `k`: 1 a formula, 2 an assume-guarantee contract, or 0 if no monitor
+/// is open or there is no such output.
 #[unsafe(no_mangle)]
 pub extern "C" fn r2u2_output_kind(it: &mut R2u2, free: FreeOnly, k: u32) -> u32
     ensures kind { result ≡ slice_index (output_kinds_of it.old.handle.value) k }
@@ -110,7 +113,7 @@ pub extern "C" fn r2u2_output_kind(it: &mut R2u2, free: FreeOnly, k: u32) -> u32
     }
 }
 
-/// The number of signals that the program stores; 0 where none is open.
+/// Returns the number of signals that the program stores, or 0 if no monitor is open.
 #[unsafe(no_mangle)]
 pub extern "C" fn r2u2_signals(it: &R2u2) -> u32
     ensures { result ≡ length (open_signals it.now.handle.value) }
@@ -118,8 +121,8 @@ pub extern "C" fn r2u2_signals(it: &R2u2) -> u32
     it.signals()
 }
 
-/// Returns the column and the kind of signal `k`, counted from 0, writes its name to the start of a buffer, and
-/// returns the name's length.
+/// Writes the column, the kind and the name of signal `k`, counted from 0, and returns the length
+/// of the name.
 #[unsafe(no_mangle)]
 pub extern "C" fn r2u2_signal(
     it: &mut R2u2,
@@ -149,7 +152,8 @@ pub extern "C" fn r2u2_signal(
     }
 }
 
-/// Writes the name of an output to the start of a buffer that has room for it, and returns its length.
+/// Writes the name of an output to the start of a buffer that has room for it, and returns its
+/// length.
 fn name_in(monitor: &Monitor, k: u32, buffer: &mut [u8]) -> u32
     ensures named { 0 < result → IsSomeAnd (slice_get (open_names (Some monitor.now)) k)
         (λ name. WritesName name result buffer.old buffer.new) }

@@ -13,12 +13,12 @@ use r2u2_monitor::Monitor;
 pub struct Told {
     pub time: u64,
     pub output: u32,
-    /// 0 false, 1 true, 2 inactive, 3 invalid, 4 verified.
+    /// The word: 0 false, 1 true, 2 inactive, 3 invalid, 4 verified.
     pub word: u32,
 }
 
 impl Told {
-    /// A report as C reads it.
+    /// Returns a report as C reads it.
     pub(crate) fn of(report: Report) -> Told
         ensures { result ≡ shown report }
     {
@@ -42,14 +42,15 @@ fn number_of(word: Word) -> u32
     }
 }
 
-/// The style that a number asks for: of each time where it is 0, and else of each longest stretch of one word.
+/// Returns the style for a number: of each time if it is 0, else of each longest stretch of one
+/// word.
 fn style_by(runs: u32) -> Style
     ensures { result ≡ style_of runs }
 {
     if runs == 0 { Style::Each } else { Style::Runs }
 }
 
-/// The next report, in the style that a number asks for.
+/// Returns the next report, in the style for a number.
 #[inline(always)]
 pub(crate) fn next_of(monitor: &mut Monitor, runs: u32) -> Option<Report>
     ensures { ReturnsNext (style_of runs) result monitor.old monitor.new }

@@ -1,4 +1,4 @@
-//! Rows by one call of C, with their reports.
+//! Calls of C that take many rows and write their reports.
 
 ghost use Rattle.std.specs.Prelude.{◌≡◌, ◌≢◌, ◌↔◌, ◌⊎◌, ◌*◌, ◌<◌, ◌≤◌, [], ◌∷◌, Contains, IfErr, IfOk, IsOk, None, OnErr, OnOk, drop, length, take};
 ghost use Rattle.r2u2_monitor.specs.Monitoring.{IsDrained};
@@ -17,10 +17,11 @@ use crate::report::Told;
 use crate::row_why::RowWhy;
 use r2u2_monitor::{Monitor, RowFault};
 
-/// Takes rows one after another, of as many numbers each as the program has columns, and writes the reports of each to the
-/// front of `reports`. It stops before a row whose reports might not fit or that can't be taken. If that is the first row, it
-/// returns why; so at `DONE` at least one row was taken, unless there were no numbers. `batch` says how many rows and reports
-/// there were.
+/// Takes rows one after another, each of as many numbers as the program has columns, and writes the
+/// reports of each to the front of `reports`. It stops before a row whose reports might not fit, or
+/// that can't be taken. If it stops before the first row, it returns the code of the fault; so at
+/// `DONE` at least one row was taken, unless there were no numbers. `batch` has the numbers of rows
+/// and reports.
 #[unsafe(no_mangle)]
 pub extern "C" fn r2u2_row_many(
     it: &mut R2u2,
@@ -61,7 +62,8 @@ pub extern "C" fn r2u2_row_many(
     }
 }
 
-/// Takes rows as `take_rows` does, and says how many rows and reports there were. Fails if the first row is not taken.
+/// Takes rows as `take_rows` does, and returns the numbers of rows and reports. Fails if the first
+/// row isn't taken.
 fn take_batch(
     monitor: &mut Monitor,
     size: usize,
@@ -88,8 +90,8 @@ fn take_batch(
     Ok(())
 }
 
-/// Takes rows one after another, each with its reports, until no number is left, the reports of the next row might not fit, or
-/// it isn't taken; then it returns why.
+/// Takes rows one after another, each with its reports, until no number is left, the reports of the
+/// next row might not fit, or the row can't be taken. Returns why it stopped.
 fn take_rows(
     monitor: &mut Monitor,
     size: usize,
@@ -124,7 +126,8 @@ fn take_rows(
     (batch, Ok(()))
 }
 
-/// Takes a row, and writes its reports to the front of a slice, as many as there is room for. Returns how many there were.
+/// Takes a row, writes as many of its reports as there is room for to the front of a slice, and
+/// returns their number.
 fn take_one(
     monitor: &mut Monitor,
     runs: u32,

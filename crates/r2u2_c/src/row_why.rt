@@ -1,4 +1,4 @@
-//! Why a row isn't taken, as C reads it.
+//! The cause of a row that isn't taken, as C reads it.
 
 ghost use Rattle.std.specs.Prelude.{◌≡◌};
 ghost use Rattle.r2u2_c.specs.Exports.{row_cause};
@@ -6,17 +6,18 @@ ghost use Rattle.r2u2_c.specs.Exports.{row_cause};
 use crate::codes::{NOT_A_ROW, REPORTS_LEFT, TOO_MANY_ROWS};
 use r2u2_monitor::RowFault;
 
-/// Why a row isn't taken, as C reads it: the code that is answered, and of `NOT_A_ROW` the column, counted from 0.
+/// The cause of a row that isn't taken, as C reads it: the code that the call returns and, for
+/// `NOT_A_ROW`, the column, counted from 0.
 #[repr(C)]
 #[derive(Clone, Copy)]
 pub struct RowWhy {
     pub why: u32,
-    /// 0 at every other code.
+    /// The column, or 0 if the code isn't `NOT_A_ROW`.
     pub column: u32,
 }
 
 impl RowWhy {
-    /// A fault of a row as C reads it.
+    /// Returns the fault of a row as C reads it.
     pub(crate) fn of(fault: RowFault) -> RowWhy
         ensures { result ≡ row_cause fault }
     {
