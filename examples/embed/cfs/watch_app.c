@@ -48,7 +48,8 @@ static void WATCH_Tick(void) {
     static bool HasGood;
     int64_t Row[WATCH_COLUMNS];
     struct r2u2_row_fault Why = {0};
-    WATCH_Sample(Row); /* the last value of each signal, taken together */
+    /* The last value of each signal, taken together; false before each signal has one. */
+    if (!WATCH_Sample(Row)) return;
     uint32_t Code = r2u2_row(&Monitor, Row, WATCH_COLUMNS, &Why);
     if (Code == R2U2_DONE) {
         CFE_PSP_MemCpy(LastGood, Row, sizeof Row);

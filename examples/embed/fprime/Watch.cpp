@@ -7,7 +7,7 @@ namespace Mission {
 bool Watch::configure(const U8 *program, FwSizeType size) {
     r2u2_fault fault{};
     if (r2u2_open(&monitor, program, size, &fault) == R2U2_DONE) return true;
-    log_FATAL_NoMonitor(fault.text);
+    log_FATAL_NoMonitor(Fw::LogStringArg(fault.text));
     return false;
 }
 

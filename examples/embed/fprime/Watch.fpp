@@ -5,8 +5,8 @@ module Mission {
   @ Watches requirements over telemetry
   passive component Watch {
     @ The last value of each signal, one port for each column of the program
-    sync input port sampleIn: [2] Sample
-    sync input port schedIn: Svc.Sched
+    guarded input port sampleIn: [2] Sample
+    guarded input port schedIn: Svc.Sched
     event port eventOut
     text event port textEventOut
     time get port timeGetOut

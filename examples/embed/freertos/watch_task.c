@@ -46,8 +46,8 @@ void watch_task(void *unused) {
     }
     for (;;) {
         int64_t row[MISSION_COLUMNS];
-        mission_sample(row); /* the last value of each signal, taken together */
-        take(row);
+        /* The last value of each signal, taken together; false before each signal has one. */
+        if (mission_sample(row)) take(row);
         vTaskDelayUntil(&woken, pdMS_TO_TICKS(100));
     }
 }

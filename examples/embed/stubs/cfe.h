@@ -1,5 +1,5 @@
 /* Stand-ins for the calls of the core Flight System that cfs/watch_app.c makes: they print events, and wake the
- * application once for each row of rows.h. */
+ * application once for each row of rows.h, and once before. */
 #ifndef CFE_H
 #define CFE_H
 
@@ -62,7 +62,7 @@ static inline CFE_Status_t CFE_EVS_SendEvent(uint16_t id, uint16_t kind, const c
     return CFE_SUCCESS;
 }
 
-static inline bool CFE_ES_RunLoop(uint32 *status) { return *status == CFE_ES_RunStatus_APP_RUN && wakeups < 7; }
+static inline bool CFE_ES_RunLoop(uint32 *status) { return *status == CFE_ES_RunStatus_APP_RUN && wakeups < 8; }
 
 static inline void CFE_ES_ExitApp(uint32 status) { printf("exit %u\n", status); }
 

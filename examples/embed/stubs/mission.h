@@ -5,15 +5,12 @@
 #include <stdint.h>
 #include <stdio.h>
 #include <stdlib.h>
-#include <string.h>
 
 #include "rows.h"
 
 enum { MISSION_COLUMNS = COLUMNS };
 
-static unsigned next_row;
-
-static inline void mission_sample(int64_t *row) { memcpy(row, rows[next_row++], sizeof rows[0]); }
+static inline bool mission_sample(int64_t *row) { return sample_row(row); }
 
 /* Ends the program after the last row. */
 static inline void mission_wait(void) {

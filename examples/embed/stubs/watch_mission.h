@@ -2,8 +2,6 @@
 #ifndef WATCH_MISSION_H
 #define WATCH_MISSION_H
 
-#include <string.h>
-
 #include "rows.h"
 
 enum { WATCH_DEPTH = 4, WATCH_WAKEUP_MID = 0x1880, WATCH_COLUMNS = COLUMNS };
@@ -11,10 +9,7 @@ enum { WATCH_OPEN_EID = 1, WATCH_ROW_EID, WATCH_FALSE_EID, WATCH_MORE_EID };
 
 void WATCH_AppMain(void);
 
-static inline void WATCH_Sample(int64_t *row) {
-    static unsigned next;
-    memcpy(row, rows[next++], sizeof rows[0]);
-}
+static inline bool WATCH_Sample(int64_t *row) { return sample_row(row); }
 
 int main(void) {
     WATCH_AppMain();

@@ -48,8 +48,8 @@ static void watch(void *a, void *b, void *c) {
     k_timer_start(&timer, K_MSEC(100), K_MSEC(100));
     for (;;) {
         int64_t row[MISSION_COLUMNS];
-        mission_sample(row); /* the last value of each signal, taken together */
-        take(row);
+        /* The last value of each signal, taken together; false before each signal has one. */
+        if (mission_sample(row)) take(row);
         k_timer_status_sync(&timer);
     }
 }
