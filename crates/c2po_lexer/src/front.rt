@@ -1,4 +1,4 @@
-//! The pieces of a text, and the one at its front.
+//! The piece at the front of a text.
 
 ghost use Rattle.std.specs.Prelude.{◌≡◌, ◌<◌, ◌≤◌, ℕ, length, take};
 ghost use Rattle.mltl_base.specs.Letters.{is_in_word};
