@@ -1,4 +1,4 @@
--- The first integer of a formula that has no range: operands first, from left to right. Contracts use this file.
+-- The first fault of a formula's integers: operands first, from left to right. Contracts use this file.
 
 use Rattle.std.specs.Prelude.{◌≡◌, Option, Some, None, Ok, Err, All}
 use Rattle.mltl_base.specs.Atoms.{Term, Atom, is_true, equal, less, at_most, different, greater, at_least}
@@ -8,17 +8,17 @@ use Rattle.mltl_base.specs.Ranges.{NoRange, Ranged, range}
 use Rattle.mltl_base.specs.Subformulas.{Asked, formulas_of}
 use Rattle.c2po_ast.specs.Nodes.{Tree, number, formula}
 
--- why there is no range
+-- the reason why there is no range, if there is none
 abbrev pub why_none : Ranged → Option NoRange
 why_none (Ok r) = None
 why_none (Err why) = Some why
 
--- the first of two faults, the left one first
+-- the left fault, or the right one if there is no left fault
 abbrev pub or_later : Option NoRange → Option NoRange → Option NoRange
 or_later (Some why) later = Some why
 or_later None later = later
 
--- why an integer has no range, if it has none
+-- the reason why an integer has no range, if it has none
 abbrev pub term_fault : Term → Option NoRange
 term_fault a = why_none (range a)
 
@@ -50,7 +50,7 @@ formula_fault (once i p) = formula_fault p
 formula_fault (historically i p) = formula_fault p
 formula_fault (since i p q) = or_later (formula_fault p) (formula_fault q)
 
--- the first fault of what a node unfolds to
+-- the first fault of the integer or formula of a node
 abbrev pub tree_fault : Tree → Option NoRange
 tree_fault (number a) = term_fault a
 tree_fault (formula p) = formula_fault p

@@ -20,7 +20,7 @@ pub record FieldShape : Type 0 where
   pub name : List ℕ
   pub kind : TypeShape
 
--- what an item says: a struct, inputs, a definition, a formula or a contract
+-- the body of an item: a struct, signals, a definition, a formula or a contract
 pub data BodyShape : Type 0 where
   structure : List ℕ → List FieldShape → BodyShape
   input : List (List ℕ) → TypeShape → BodyShape
@@ -42,7 +42,7 @@ type_shape (Set' p t) = set_of (type_shape t)
 abbrev pub field_shape : FieldDecl → FieldShape
 field_shape f = record { name = f.name; kind = type_shape f.kind }
 
--- the shape of what an item says
+-- the shape of the body of an item
 abbrev pub body_shape : Body → BodyShape
 body_shape (Struct x fs) = structure x (map field_shape fs)
 body_shape (Input xs k) = input xs (type_shape k)

@@ -6,11 +6,11 @@ use Rattle.c2po_ast.specs.Shape.{compare, logic, window, between, each, exists, 
 use Rattle.c2po_ast.specs.ItemShape.{TypeShape, FieldShape, BodyShape, ItemShape, type_named, set_of, structure, input}
 use Rattle.c2po_ast.specs.ItemShape.{define, formula, contract}
 
--- a name is made of letters of ASCII, digits and `_`
+-- the name consists of ASCII letters, digits and `_`
 abbrev pub IsPlainName : List ℕ → Type 0
 IsPlainName x = AllPass is_in_word x
 
--- every name in a tree is so made
+-- every name in the tree consists of ASCII letters, digits and `_`
 abbrev mutual
   pub HasPlainNames : Shape → Type 0
   HasPlainNames (number line n) = ⊤
@@ -34,27 +34,27 @@ abbrev mutual
   HavePlainNames none = ⊤
   HavePlainNames (more e es) = HasPlainNames e × HavePlainNames es
 
--- every name in a type is so made
+-- every name in the type consists of ASCII letters, digits and `_`
 abbrev pub HasPlainType : TypeShape → Type 0
 HasPlainType (type_named x) = IsPlainName x
 HasPlainType (set_of k) = HasPlainType k
 
--- every name in fields is so made
+-- every name in the fields consists of ASCII letters, digits and `_`
 abbrev pub ArePlainFields : List FieldShape → Type 0
 ArePlainFields [] = ⊤
 ArePlainFields (f ∷ fs) = (IsPlainName f.name × HasPlainType f.kind) × ArePlainFields fs
 
--- every name of a list is so made
+-- every name of the list consists of ASCII letters, digits and `_`
 abbrev pub ArePlain : List (List ℕ) → Type 0
 ArePlain [] = ⊤
 ArePlain (x ∷ xs) = IsPlainName x × ArePlain xs
 
--- a label is so made, where there is one
+-- the label, if there is one, consists of ASCII letters, digits and `_`
 abbrev pub IsPlainLabel : Option (List ℕ) → Type 0
 IsPlainLabel None = ⊤
 IsPlainLabel (Some x) = IsPlainName x
 
--- every name in what an item says is so made
+-- every name in the body of an item consists of ASCII letters, digits and `_`
 abbrev pub IsPlainBody : BodyShape → Type 0
 IsPlainBody (structure x fs) = IsPlainName x × ArePlainFields fs
 IsPlainBody (input xs k) = ArePlain xs × HasPlainType k
@@ -62,7 +62,7 @@ IsPlainBody (define x e) = IsPlainName x × HasPlainNames e
 IsPlainBody (formula engine label e) = IsPlainLabel label × HasPlainNames e
 IsPlainBody (contract engine label e f) = IsPlainLabel label × (HasPlainNames e × HasPlainNames f)
 
--- every name in the items of a specification is so made
+-- every name in the items consists of ASCII letters, digits and `_`
 abbrev pub ArePlainItems : List ItemShape → Type 0
 ArePlainItems [] = ⊤
 ArePlainItems (i ∷ is) = IsPlainBody i.body × ArePlainItems is

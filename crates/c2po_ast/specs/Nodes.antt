@@ -1,5 +1,5 @@
--- Nodes of plain formulas: what they unfold to, and which are sound.
--- A reader of the contracts needs this file.
+-- Nodes of plain formulas: the integers and formulas that they unfold to, and sound lists of nodes. A reader of the
+-- contracts needs this file.
 
 use Rattle.std.specs.Prelude.{◌≡◌, ℕ, ◌<◌, ◌≤◌, pos, Bool, true, false, Option, Some, None, List, [], ◌∷◌, ◌++◌, take}
 use Rattle.std.specs.Prelude.{fold, slice_get, ⊤}
@@ -18,7 +18,7 @@ use Rattle.c2po_ast.specs.declared.nodes.Plain.{Plain}
 use Rattle.c2po_ast.specs.declared.nodes.Plain.TheVariants.{Truth, Flag, Number, Signal, Minus, Arith, Compare, Not}
 use Rattle.c2po_ast.specs.declared.nodes.Plain.TheVariants.{Logic, Window, Between}
 
--- what a node unfolds to, over signals by their numbers
+-- the integer or formula that a node unfolds to, over signals by their numbers
 pub data Tree : Type 0 where
   number : Term → Tree
   formula : Formula → Tree
@@ -48,7 +48,7 @@ abbrev pub constant_formula : Bool → Formula
 constant_formula true = truth
 constant_formula false = falsity
 
--- an operation on two integers
+-- the integer of an operation on two integers
 abbrev pub arithmetic : arith.ArithOp → Term → Term → Term
 arithmetic arith.TheVariants.Add a b = plus a b
 arithmetic arith.TheVariants.Sub a b = minus a b
@@ -56,7 +56,7 @@ arithmetic arith.TheVariants.Mul a b = times a b
 arithmetic arith.TheVariants.Div a b = quotient a b
 arithmetic arith.TheVariants.Rem a b = remainder a b
 
--- a comparison of two integers
+-- the atom of a comparison of two integers
 abbrev pub comparison : compare.CompareOp → Term → Term → Atom
 comparison compare.TheVariants.Eq a b = equal a b
 comparison compare.TheVariants.Ne a b = different a b
@@ -65,27 +65,27 @@ comparison compare.TheVariants.Le a b = at_most a b
 comparison compare.TheVariants.Gt a b = greater a b
 comparison compare.TheVariants.Ge a b = at_least a b
 
--- a connective over two formulas
+-- the formula of a connective over two formulas
 abbrev pub connected : logic.LogicOp → Formula → Formula → Formula
 connected logic.TheVariants.And p q = conjunction p q
 connected logic.TheVariants.Or p q = disjunction p q
 connected logic.TheVariants.Implies p q = implication p q
 connected logic.TheVariants.Iff p q = equivalence p q
 
--- an operator over a window, of one formula
+-- the formula of a temporal operator over one formula
 abbrev pub windowed : window.WindowOp → Interval → Formula → Formula
 windowed window.TheVariants.F i p = finally i p
 windowed window.TheVariants.G i p = globally i p
 windowed window.TheVariants.O i p = once i p
 windowed window.TheVariants.H i p = historically i p
 
--- an operator over a window, of two formulas
+-- the formula of a temporal operator over two formulas
 abbrev pub ranged : between.BetweenOp → Interval → Formula → Formula → Formula
 ranged between.TheVariants.U i p q = until i p q
 ranged between.TheVariants.R i p q = release i p q
 ranged between.TheVariants.S i p q = since i p q
 
--- what a node unfolds to, over the trees of the nodes before it
+-- the integer or formula that a node unfolds to, over the trees of the nodes before it
 abbrev pub tree_of : List Tree → Plain → Tree
 tree_of earlier (Truth v) = formula (constant_formula v)
 tree_of earlier (Flag s) = formula (atom (is_true s))
@@ -103,31 +103,31 @@ tree_of earlier (Between op i a b) = formula (ranged op i (node_formula earlier 
 unfoldable pub trees : List Plain → List Tree
 trees nodes = fold (λ earlier node. earlier ++ tree_of earlier node ∷ []) [] nodes
 
--- node n is there, and unfolds to a tree
+-- node n exists and unfolds to the tree
 pub record Has (nodes : List Plain) (n : ℕ) (tree : Tree) : Type 0 where
   pub found : slice_get (trees nodes) n ≡ Some tree
 
--- each node of the old list is at its index in the new one, and unfolds to the same
+-- each node of the old list unfolds to the same tree in the new list, at the same index
 pub record Grows (old new : List Plain) : Type 0 where
   pub kept : (n : ℕ) (tree : Tree) → Has old n tree → Has new n tree
 
--- there is an integer
+-- the tree exists and is an integer
 abbrev pub IsNumber : Option Tree → Type 0
 IsNumber (Some (number a)) = ⊤
 IsNumber (Some (formula p)) = ⊥
 IsNumber None = ⊥
 
--- there is a formula
+-- the tree exists and is a formula
 abbrev pub IsFormula : Option Tree → Type 0
 IsFormula (Some (formula p)) = ⊤
 IsFormula (Some (number a)) = ⊥
 IsFormula None = ⊥
 
--- the interval runs upward, and no further than the limit
+-- the interval's lower bound isn't above the upper one, and the upper one is within the limit
 abbrev pub IsBounded : Interval → Type 0
 IsBounded i = (i.lo ≤ i.hi) × (i.hi ≤ MAX_BOUND)
 
--- the node's operands are earlier nodes of the kinds that it asks for, its interval is in bounds, its signal is one
+-- the node's operands are earlier nodes of the required kinds, its interval is within bounds, and its signal exists
 abbrev pub IsFormed : ℕ → List Tree → Plain → Type 0
 IsFormed signals earlier (Truth v) = ⊤
 IsFormed signals earlier (Flag s) = s < signals
@@ -142,6 +142,6 @@ IsFormed signals earlier (Window op i a) = IsBounded i × IsFormula (slice_get e
 IsFormed signals earlier (Between op i a b) =
     IsBounded i × IsFormula (slice_get earlier a) × IsFormula (slice_get earlier b)
 
--- each node is so over the nodes before it
+-- each node is well formed over the nodes before it
 pub record AreSound (signals : ℕ) (nodes : List Plain) : Type 0 where
   pub formed : (i : ℕ) (node : Plain) → slice_get nodes i ≡ Some node → IsFormed signals (trees (take i nodes)) node

@@ -10,8 +10,8 @@ use Rattle.c2po_ast.specs.declared.tree.Node.{Node, Row_of-Expr, end_of-Expr, mo
 use Rattle.c2po_ast.specs.declared.tree.Node.{Group', Pick', Minus', Not', Arith', Compare', Logic', Window', Between'}
 use Rattle.c2po_ast.specs.declared.tree.Node.{Each', Exists', Count'}
 
--- The tree of an expression, as contracts compare it: a box is what it holds, a vector the list of its members.
--- Each node has its line first; a name is the list of its bytes.
+-- The tree of an expression, as contracts compare it: a box is its content, and a vector is the list of its members. Each
+-- node has its line first; a name is the list of its bytes.
 mutual
   pub data Shape : Type 0 where
     number : ℕ → ℤ → Shape
@@ -62,7 +62,7 @@ abbrev mutual
 abbrev pub shape : Expr → Shape
 shape e = node_shape e.line e.node
 
--- shapes one after another
+-- the shapes of a list, in order
 abbrev pub of_list : List Shape → Shapes
 of_list [] = none
 of_list (s ∷ ss) = more s (of_list ss)

@@ -5,7 +5,7 @@ use Rattle.std.specs.Prelude.{Bool, true, false, ◌||◌}
 use Rattle.mltl_base.specs.Formula.{Formula, truth, falsity, atom, negation, conjunction, disjunction, implication}
 use Rattle.mltl_base.specs.Formula.{equivalence, finally, globally, until, release, once, historically, since}
 
--- an operator of the past is in the formula
+-- the formula has an operator of the past
 unfoldable pub has_past : Formula → Bool
 has_past truth = false
 has_past falsity = false
@@ -23,7 +23,7 @@ has_past (once i p) = true
 has_past (historically i p) = true
 has_past (since i p q) = true
 
--- an operator of the future is in the formula
+-- the formula has an operator of the future
 unfoldable pub has_future : Formula → Bool
 has_future truth = false
 has_future falsity = false

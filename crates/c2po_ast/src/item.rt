@@ -16,7 +16,7 @@ pub struct Item {
     pub body: Body,
 }
 
-/// What an item declares.
+/// The declaration or the output of an item.
 #[derive(Drop)]
 pub enum Body {
     /// A struct with its fields in order.
@@ -25,9 +25,10 @@ pub enum Body {
     Input(List<Name>, TypeTree),
     /// A name for an expression.
     Define(Name, Expr),
-    /// An output: a formula for an engine, with its label where it has one.
+    /// An output: a formula for an engine, with an optional label.
     Formula(Engine, Option<Name>, Expr),
-    /// An output: assumption and guarantee of a contract for an engine, with its label where it has one.
+    /// An output: the assumption and the guarantee of a contract for an engine, with an optional
+    /// label.
     Contract(Engine, Option<Name>, Expr, Expr),
 }
 
@@ -38,7 +39,7 @@ pub struct FieldDecl {
     pub kind: TypeTree,
 }
 
-/// A type as it is written; `bool` and `int` are names here.
+/// A type as it is written. `bool` and `int` are names here.
 #[derive(Drop)]
 pub enum TypeTree {
     Named(Name),

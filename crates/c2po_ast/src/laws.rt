@@ -1,4 +1,5 @@
-//! What the definitions of this crate say together: each law is the contract of a function with an empty body.
+//! Laws of the definitions of this crate: each law is the contract of a function with an empty
+//! body.
 
 ghost use Rattle.mltl_base.specs.Atoms.{Term};
 ghost use Rattle.mltl_base.specs.Formula.{Formula};
@@ -6,7 +7,7 @@ ghost use Rattle.c2po_ast.specs.Nodes.{AreSound, Grows, Has, IsFormed, IsFormula
 ghost use Rattle.c2po_ast.specs.declared.nodes.Plain.{Plain as Node};
 ghost use Rattle.std.specs.Prelude.{◌≡◌, ℕ, List as Seq, [], ◌∷◌, ◌++◌, length, slice_get};
 
-/// A node that comes after the others unfolds over them, and the others stay as they are.
+/// A node that is appended unfolds over the earlier nodes, which stay as they are.
 #[tactic(auto, using(crate::proofs::Pushing::has_new, crate::proofs::Pushing::grows_append, crate::proofs::Pushing::sound_nil, crate::proofs::Pushing::sound_push))]
 pub fn nodes_grow()
     ensures new { (nodes : Seq Node) (node : Node)
@@ -17,8 +18,8 @@ pub fn nodes_grow()
         → IsFormed signals (trees nodes) node → AreSound signals (nodes ++ node ∷ []) }
 {}
 
-/// A node that unfolds to an integer or to a formula serves as an operand of that kind, and represents what it
-/// unfolds to.
+/// A node that unfolds to an integer or a formula can be an operand of that kind, and represents
+/// its integer or formula.
 #[tactic(auto, using(crate::proofs::Pushing::number_at, crate::proofs::Pushing::is_number, crate::proofs::Pushing::formula_in_place, crate::proofs::Pushing::is_formula))]
 pub fn operands_unfold()
     ensures number { (nodes : Seq Node) (n : ℕ) (a : Term) → Has nodes n (number a)

@@ -1,8 +1,10 @@
-//! The trees of a specification: items, types and expressions, the parts that expressions are made of, and copies.
+//! The trees of a specification: items, types and expressions, the parts that expressions are made
+//! of, and copies.
 //!
-//! A contract says which tree it means by its shape, which this crate's `specs/` define: two trees of one shape have
-//! the same nodes with the same lines. `copy_tree` makes a second tree of the same shape. `c2po_parse` says how
-//! tokens are read into these trees; code that needs only the trees uses this crate alone.
+//! Contracts identify a tree by its shape, which this crate's `specs/` define: two trees of one
+//! shape have the same nodes with the same lines. `copy_tree` makes a second tree of the same
+//! shape. `c2po_parse` reads tokens into these trees; code that needs only the trees uses this
+//! crate alone.
 //!
 //! ```text
 //! let expr = node::leaf_of(1, operator::Atom::Truth(true)); // the tree of `true` in line 1

@@ -1,4 +1,4 @@
-//! The making of trees from their parts.
+//! Trees from their parts.
 
 ghost use Rattle.std.specs.Prelude.{◌≡◌, map};
 ghost use Rattle.c2po_ast.specs.Shape.{shape};
@@ -8,7 +8,7 @@ use crate::operator::{Atom, Bracket, Infix, Prefix, Quantifier};
 use crate::{Expr, Node};
 use mltl_base::Name;
 
-/// An operand of one token.
+/// Makes an operand of one token.
 pub fn leaf_of(line: u32, atom: Atom) -> Expr
     ensures { shape result ≡ leaf line atom }
 {
@@ -20,7 +20,7 @@ pub fn leaf_of(line: u32, atom: Atom) -> Expr
     Expr { line, node }
 }
 
-/// Two operands joined by an operator.
+/// Joins two operands by an operator.
 pub fn joined_by(line: u32, binary: Infix, left: Box<Expr>, right: Box<Expr>) -> Expr
     ensures { shape result ≡ joined line binary (shape left.value) (shape right.value) }
 {
@@ -33,7 +33,7 @@ pub fn joined_by(line: u32, binary: Infix, left: Box<Expr>, right: Box<Expr>) ->
     Expr { line, node }
 }
 
-/// An operand after a prefix.
+/// Applies a prefix to an operand.
 pub fn prefixed_by(prefix: Prefix, operand: Box<Expr>) -> Expr
     ensures { shape result ≡ prefixed prefix (shape operand.value) }
 {
@@ -53,7 +53,7 @@ pub fn prefixed_by(prefix: Prefix, operand: Box<Expr>) -> Expr
     }
 }
 
-/// A quantifier over a set, with its number where it counts.
+/// Makes a quantifier over a set. Only a counting quantifier uses the number.
 pub fn quantify(
     line: u32,
     quantifier: Quantifier,
@@ -81,7 +81,7 @@ pub fn quantify(
     }
 }
 
-/// What brackets make of their elements.
+/// Makes a set or a struct's value from the elements in brackets.
 pub fn enclose(bracket: Bracket, elements: Vec<Expr>) -> Expr
     ensures { shape result ≡ enclosed bracket (map shape elements.items) }
 {

@@ -1,4 +1,4 @@
-//! Nodes, each at its place.
+//! A list of nodes.
 
 ghost use Rattle.std.specs.Prelude.{◌≡◌, ◌∷◌, ◌++◌, [], ◌<◌, ◌^◌, length, IfOk, OnErr, OnOk};
 
@@ -7,7 +7,7 @@ use mltl_base::List;
 use std::alloc::{AllocError, Global};
 use std::marker::Model;
 
-/// A list of nodes, which contracts see as that list.
+/// A list of fewer than 2^32 nodes, which contracts see as a list.
 #[derive(Drop)]
 pub struct NodeList {
     list: List<Plain>,
@@ -25,7 +25,7 @@ impl Model for NodeList {
 }
 
 impl NodeList {
-    /// Makes an empty list of nodes. It does not allocate.
+    /// Makes an empty list of nodes. Doesn't allocate.
     pub fn new(alloc: Global) -> NodeList
         ensures { result ≡ [] }
     {
@@ -34,7 +34,7 @@ impl NodeList {
         }
     }
 
-    /// Puts a node after the others, and gives its place. At 2^32 nodes it is out of memory.
+    /// Appends a node, and returns its place. Fails as if out of memory at 2^32 nodes.
     pub fn push(&mut self, node: Plain) -> Result<u32, AllocError>
         ensures pushed { OnOk result (self.new ≡ self.old ++ node ∷ []) }
         ensures place { IfOk result (λ n. n ≡ length self.old) }
@@ -48,14 +48,14 @@ impl NodeList {
         Ok(place)
     }
 
-    /// The nodes in order.
+    /// Returns the nodes in order.
     pub fn as_slice(&self) -> &[Plain]
         ensures { result.now ≡ self.now }
     {
         self.list.as_slice()
     }
 
-    /// The nodes, which are fewer than 2^32.
+    /// Returns the nodes, which are fewer than 2^32.
     pub fn into_list(self) -> List<Plain>
         ensures nodes { result ≡ self }
         ensures few { length self < 2 ^ 32 }

@@ -1,16 +1,16 @@
-//! Nodes of plain formulas, and a specification that is unfolded to them.
+//! Nodes of plain formulas, and specifications that are unfolded to nodes.
 
 use mltl_base::{ArithOp, BetweenOp, CompareOp, Engine, Interval, List, LogicOp, Name, WindowOp};
 
-/// A node of a plain formula or of an integer expression. Operands are the indices of earlier nodes, signals are
-/// numbered in order of declaration.
+/// A node of a plain formula or of an integer expression. Operands are the indices of earlier
+/// nodes; signals are numbered in the order of declaration.
 #[derive(Clone, Copy)]
 pub enum Plain {
     Truth(bool),
-    /// The truth of a signal of kind bool.
+    /// The value of a Boolean signal.
     Flag(u32),
     Number(i64),
-    /// The integer of a signal of kind int.
+    /// The value of an integer signal.
     Signal(u32),
     Minus(u32),
     Arith(ArithOp, u32, u32),
@@ -21,14 +21,15 @@ pub enum Plain {
     Between(BetweenOp, Interval, u32, u32),
 }
 
-/// An output: its engine, the places of its formula or of the left and the right formula of a contract, and its name.
+/// An output: its engine, the places of its formula or of the left and the right formula of a
+/// contract, and its name.
 #[derive(Drop)]
 pub enum PlainOut {
     Formula(Engine, u32, Name),
     Contract(Engine, u32, u32, Name),
 }
 
-/// A specification that is unfolded: the nodes, and the outputs in order.
+/// An unfolded specification: the nodes, and the outputs in order.
 #[derive(Drop)]
 pub struct Expanded {
     pub nodes: List<Plain>,

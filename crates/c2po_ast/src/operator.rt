@@ -2,7 +2,7 @@
 
 use mltl_base::{ArithOp, BetweenOp, CompareOp, CountOp, LogicOp, Name, WindowOp};
 
-/// An operator between operands, with its interval where it has one.
+/// An operator between operands, with its interval if it is temporal.
 #[derive(Clone, Copy)]
 pub enum Infix {
     Logic(LogicOp),
@@ -11,7 +11,7 @@ pub enum Infix {
     Arith(ArithOp),
 }
 
-/// A prefix of an operand, with its line, and its interval where it has one.
+/// A prefix of an operand, with its line, and with its interval if it is temporal.
 #[derive(Clone, Copy)]
 pub enum Prefix {
     Not(u32),
@@ -27,7 +27,8 @@ pub enum Quantifier {
     Count(CountOp),
 }
 
-/// Brackets around elements with commas between them: braces, or those of a named struct, with their line.
+/// Brackets around elements with commas between them: braces, or the brackets of a call of a
+/// struct's name, with their line.
 #[derive(Drop)]
 pub enum Bracket {
     Curly(u32),

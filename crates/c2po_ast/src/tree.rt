@@ -2,8 +2,9 @@
 
 use mltl_base::{ArithOp, BetweenOp, CompareOp, CountOp, LogicOp, Name, WindowOp};
 
-/// An expression, with the line of its head token: the operator, the letter of a temporal operator, the number, the
-/// name, the `{`, the picked field or the quantifier's word. Round brackets leave no trace.
+/// An expression, with the line of its head token: the operator, the letter of a temporal operator,
+/// the number, the name, the `{`, the picked field or the quantifier's word. Round brackets leave
+/// no trace.
 #[cycle(expr)]
 #[derive(Drop)]
 pub struct Expr {
@@ -11,7 +12,7 @@ pub struct Expr {
     pub node: Node,
 }
 
-/// What an expression is made of.
+/// The head and the operands of an expression.
 #[cycle(expr)]
 #[derive(Drop)]
 pub enum Node {

@@ -1,4 +1,5 @@
-//! Copies of expressions. A level of nesting takes little of the stack, since each form has a separate function.
+//! Copies of expressions. Each form has a separate function, so a level of nesting takes little of
+//! the stack.
 
 ghost use Rattle.std.specs.Prelude.{◌≡◌, map, IfOk};
 ghost use Rattle.c2po_ast.specs.Parts.{enclosed, joined, prefixed, quantified};
@@ -10,7 +11,7 @@ use crate::{Expr, Node};
 use mltl_base::Name;
 use std::alloc::{AllocError, Global};
 
-/// Copies of expressions in order.
+/// Returns copies of expressions in order.
 #[cycle(copying)]
 fn copy_all(alloc: Global, exprs: &[Expr]) -> Result<Vec<Expr>, AllocError>
     ensures { IfOk result (λ copies. map shape copies.items ≡ map shape exprs.now) }
@@ -23,7 +24,7 @@ fn copy_all(alloc: Global, exprs: &[Expr]) -> Result<Vec<Expr>, AllocError>
     Ok(copies)
 }
 
-/// A copy of an operand, in a box.
+/// Returns a copy of an operand in a box.
 #[cycle(copying)]
 fn boxed(alloc: Global, expr: &Expr) -> Result<Box<Expr>, AllocError>
     ensures { IfOk result (λ copy. shape copy.value ≡ shape expr.now) }
@@ -33,7 +34,7 @@ fn boxed(alloc: Global, expr: &Expr) -> Result<Box<Expr>, AllocError>
     Ok(copy)
 }
 
-/// Brackets around copies of their elements.
+/// Returns brackets around copies of their elements.
 #[cycle(copying)]
 fn copy_enclosed(alloc: Global, bracket: Bracket, elements: &[Expr]) -> Result<Expr, AllocError>
     ensures { IfOk result (λ copy. shape copy ≡ enclosed bracket (map shape elements.now)) }
@@ -42,7 +43,7 @@ fn copy_enclosed(alloc: Global, bracket: Bracket, elements: &[Expr]) -> Result<E
     Ok(enclose(bracket, elements))
 }
 
-/// A field picked from a copy of an operand.
+/// Returns a field picked from a copy of an operand.
 #[cycle(copying)]
 fn copy_picked(alloc: Global, line: u32, whole: &Expr, field: &Name) -> Result<Expr, AllocError>
     ensures { IfOk result (λ copy. shape copy ≡ pick line (shape whole.now) field.now) }
@@ -52,7 +53,7 @@ fn copy_picked(alloc: Global, line: u32, whole: &Expr, field: &Name) -> Result<E
     Ok(Expr { line, node })
 }
 
-/// A copy of an operand after a prefix.
+/// Returns a copy of an operand after a prefix.
 #[cycle(copying)]
 fn copy_after(alloc: Global, prefix: Prefix, operand: &Expr) -> Result<Expr, AllocError>
     ensures { IfOk result (λ copy. shape copy ≡ prefixed prefix (shape operand.now)) }
@@ -61,7 +62,7 @@ fn copy_after(alloc: Global, prefix: Prefix, operand: &Expr) -> Result<Expr, All
     Ok(prefixed_by(prefix, operand))
 }
 
-/// A copy of an operand, joined by an operator to the one at its left.
+/// Returns a copy of a right operand, joined by an operator to the left operand.
 #[cycle(copying)]
 fn join_copy(
     alloc: Global,
@@ -77,7 +78,7 @@ fn join_copy(
     Ok(joined_by(line, binary, left, operand))
 }
 
-/// A copy of a body under its quantifier, over a set.
+/// Returns a quantifier over a set, with a copy of its body.
 #[cycle(copying)]
 fn copy_quantified(
     alloc: Global,
@@ -95,7 +96,7 @@ fn copy_quantified(
     Ok(quantify(line, quantifier, variable.copy(), set, number, body))
 }
 
-/// A second expression like this one.
+/// Returns a copy of an expression.
 #[cycle(copying)]
 pub(super) fn copy_expr(alloc: Global, expr: &Expr) -> Result<Expr, AllocError>
     ensures { IfOk result (λ copy. shape copy ≡ shape expr.now) }

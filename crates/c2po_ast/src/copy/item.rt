@@ -8,7 +8,7 @@ use crate::{Body, FieldDecl, Item, SpecTree, TypeTree};
 use mltl_base::{List, Name};
 use std::alloc::{AllocError, Global};
 
-/// A second type like this one.
+/// Returns a copy of a type.
 pub fn copy_type(alloc: Global, tree: &TypeTree) -> Result<TypeTree, AllocError>
     ensures { IfOk result (λ copy. type_shape copy ≡ type_shape tree.now) }
 {
@@ -22,7 +22,7 @@ pub fn copy_type(alloc: Global, tree: &TypeTree) -> Result<TypeTree, AllocError>
     }
 }
 
-/// A second field like this one.
+/// Returns a copy of a field.
 fn copy_field(alloc: Global, field: &FieldDecl) -> Result<FieldDecl, AllocError>
     ensures { IfOk result (λ copy. field_shape copy ≡ field_shape field.now) }
 {
@@ -33,7 +33,7 @@ fn copy_field(alloc: Global, field: &FieldDecl) -> Result<FieldDecl, AllocError>
     })
 }
 
-/// Copies of fields in order.
+/// Returns copies of fields in order.
 fn copy_fields(alloc: Global, fields: &[FieldDecl]) -> Result<List<FieldDecl>, AllocError>
     ensures { IfOk result (λ copies. map field_shape copies ≡ map field_shape fields.now) }
 {
@@ -45,7 +45,7 @@ fn copy_fields(alloc: Global, fields: &[FieldDecl]) -> Result<List<FieldDecl>, A
     Ok(copies)
 }
 
-/// The names of fields in order.
+/// Returns the names of fields in order.
 pub fn field_names(alloc: Global, fields: &[FieldDecl]) -> Result<List<Name>, AllocError>
     ensures { IfOk result (λ names. names ≡ map (λ f. f.name) (map field_shape fields.now)) }
 {
@@ -56,7 +56,7 @@ pub fn field_names(alloc: Global, fields: &[FieldDecl]) -> Result<List<Name>, Al
     Ok(names)
 }
 
-/// Copies of names in order.
+/// Returns copies of names in order.
 fn copy_names(alloc: Global, names: &[Name]) -> Result<List<Name>, AllocError>
     ensures { IfOk result (λ copies. copies ≡ names.now) }
 {
@@ -67,7 +67,7 @@ fn copy_names(alloc: Global, names: &[Name]) -> Result<List<Name>, AllocError>
     Ok(copies)
 }
 
-/// A second label like this one, where there is one.
+/// Returns a copy of a label, if there is one.
 fn copy_label(label: &Option<Name>) -> Option<Name>
     ensures { result ≡ label.now }
 {
@@ -77,7 +77,7 @@ fn copy_label(label: &Option<Name>) -> Option<Name>
     }
 }
 
-/// A second body like this one.
+/// Returns a copy of a body.
 fn copy_body(alloc: Global, body: &Body) -> Result<Body, AllocError>
     ensures { IfOk result (λ copy. body_shape copy ≡ body_shape body.now) }
 {
@@ -107,7 +107,7 @@ fn copy_body(alloc: Global, body: &Body) -> Result<Body, AllocError>
     }
 }
 
-/// A second item like this one.
+/// Returns a copy of an item.
 fn copy_item(alloc: Global, item: &Item) -> Result<Item, AllocError>
     ensures { IfOk result (λ copy. item_shape copy ≡ item_shape item.now) }
 {
@@ -118,7 +118,7 @@ fn copy_item(alloc: Global, item: &Item) -> Result<Item, AllocError>
     })
 }
 
-/// A second tree like this one.
+/// Returns a copy of the tree of a specification.
 pub fn copy_tree(alloc: Global, tree: &SpecTree) -> Result<SpecTree, AllocError>
     ensures { IfOk result (λ copy. spec_shape copy ≡ spec_shape tree.now) }
 {
