@@ -1,5 +1,5 @@
--- How many bytes a monitor allocates, by its program alone, and how many it holds. A list of a program has room for
--- `room` of its members; each list that runs has just its members in its block. A list without members has no block.
+-- The bytes that a monitor allocates, by its program alone, and the bytes that it holds. A list of a program has room for
+-- `room` of its members; each list of the engines has just its members in its block. A list without members has no block.
 -- The monitor itself, of MONITOR_BYTES wherever its caller puts it, isn't counted.
 
 use Rattle.std.specs.Prelude.{ℕ, ◌+◌, ◌*◌, length, sum}
@@ -19,9 +19,9 @@ use Rattle.r2u2_monitor.specs.declared.bytes.TheConstants.{SIZE_BYTES, TIME_BYTE
 use Rattle.r2u2_monitor.specs.declared.running.Running.{Running}
 use Rattle.r2u2_monitor.specs.declared.state.State.{State}
 
--- ---- how many it takes
+-- ---- the bytes that it takes
 
--- the seven lists of a program; names are in the outputs and the signals themselves
+-- the bytes of the seven lists of a program; names are in the outputs and the signals themselves
 abbrev pub program_bytes : Program → ℕ
 program_bytes program =
     BZ_OP_BYTES * room (length program.bz)
@@ -32,8 +32,8 @@ program_bytes program =
     + SIZE_BYTES * room (length program.sizes.pt)
     + SIGNAL_BYTES * room (length program.signals)
 
--- a checked program: also the best and the worst delay of each future-time instruction, and for each instruction of the
--- Booleanizer the signal that it reads
+-- the bytes of a checked program: also the best and the worst delay of each future-time instruction, and for each
+-- instruction of the Booleanizer the signal that it reads
 abbrev pub checked_bytes : Program → ℕ
 checked_bytes program =
     program_bytes program
@@ -41,8 +41,9 @@ checked_bytes program =
     + SIZE_BYTES * room (length program.ft)
     + READER_BYTES * room (length program.bz)
 
--- what runs: a number for each instruction of the Booleanizer, the queues with their slots, the past-time instructions
--- with their boxes, a time for each output; and for each column how it is read, and its number in a row that is read
+-- the bytes of the engines: a number for each instruction of the Booleanizer, the queues with their slots, the past-time
+-- instructions with their boxes, and a time for each output; and for each column its reading, and its number in a row that
+-- is read
 abbrev pub running_bytes : Program → ℕ
 running_bytes program =
     NUMBER_BYTES * length program.bz
@@ -54,19 +55,19 @@ running_bytes program =
     + READING_BYTES * program.width
     + NUMBER_BYTES * program.width
 
--- all that a monitor of the program takes
+-- the bytes that a monitor of the program takes
 abbrev pub monitor_bytes : Program → ℕ
 monitor_bytes program = checked_bytes program + running_bytes program
 
--- ---- how many it holds: each type by all its fields, so that one with a further field doesn't compile
+-- ---- the bytes that it holds: each type by all its fields, so that a type with a further field doesn't compile
 
--- the sizes of a program
+-- the bytes of the sizes of a program
 abbrev pub bytes_of_sizes : Sizes → ℕ
 bytes_of_sizes sizes =
     let record { ft = ft; pt = pt } = sizes in
     SIZE_BYTES * room (length ft) + SIZE_BYTES * room (length pt)
 
--- the lists of a program
+-- the bytes of the lists of a program
 abbrev pub bytes_of_program : Program → ℕ
 bytes_of_program program =
     let record {
@@ -86,7 +87,7 @@ bytes_of_program program =
     + bytes_of_sizes sizes
     + SIGNAL_BYTES * room (length signals)
 
--- a program that was checked, which contracts see without its delays and the signals that it reads
+-- the bytes of a program that was checked, which contracts see without its delays and the signals that it reads
 abbrev pub bytes_of_checked : Program → ℕ
 bytes_of_checked checked =
     bytes_of_program checked
@@ -94,19 +95,19 @@ bytes_of_checked checked =
     + SIZE_BYTES * room (length (worst_delays checked.ft))
     + READER_BYTES * room (length (signals_read checked))
 
--- the queues and their slots
+-- the bytes of the queues and their slots
 abbrev pub bytes_of_future : Ft → ℕ
 bytes_of_future ft =
     let record { queues = queues; slab = slab; sound = sound } = ft in
     QUEUE_BYTES * length queues + SLOT_BYTES * length slab
 
--- the past-time instructions and their boxes
+-- the bytes of the past-time instructions and their boxes
 abbrev pub bytes_of_past : Pt → ℕ
 bytes_of_past pt =
     let record { nodes = nodes; slab = slab; rows = rows } = pt in
     NODE_BYTES * length nodes + SPAN_BYTES * length slab
 
--- what runs: contracts see the Booleanizer as its numbers and the outputs as their next times
+-- the bytes of the engines: contracts see the Booleanizer as its numbers and the outputs as their next times
 abbrev pub bytes_of_running : Running → ℕ
 bytes_of_running running =
     let record { checked = checked; bz = numbers; ft = ft; pt = pt; outs = next_times; taken = taken } = running in
@@ -116,7 +117,7 @@ bytes_of_running running =
     + bytes_of_past pt
     + TIME_BYTES * length next_times
 
--- a monitor, which contracts see without how its columns are read; no bytes hold the row that was taken last
+-- the bytes of a monitor, which contracts see without the readings of its columns; no bytes hold the row that was taken last
 abbrev pub bytes_of : State → ℕ
 bytes_of monitor =
     let record { running = running; last = last; read = read } = monitor in

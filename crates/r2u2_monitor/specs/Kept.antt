@@ -1,4 +1,4 @@
--- What the fields of a monitor hold.
+-- The invariant of the fields of a monitor.
 
 use Rattle.std.specs.Prelude.{◌≡◌}
 use Rattle.trace_feed.specs.Readings.{readings_of}
@@ -7,11 +7,11 @@ use Rattle.r2u2_monitor.specs.declared.state.State.{State}
 use Rattle.r2u2_monitor.specs.Monitoring.{MonitorIsSound}
 use Rattle.r2u2_monitor.specs.Running.{ResumesAt}
 
--- what contracts see of them
+-- the state that contracts see of the fields
 abbrev pub state_of : MonitorFields → State
 state_of monitor = record { running = monitor.running; last = monitor.last.numbers; read = monitor.read }
 
--- a sound monitor, the cursor at which its search goes on, and how its program reads each column
+-- the monitor is sound, its search may go on at its cursor, and its readings are the readings of its program's columns
 pub record IsKept (monitor : MonitorFields) : Type 0 where
   pub sound : MonitorIsSound (state_of monitor)
   pub resumes : ResumesAt monitor.running monitor.cursor

@@ -1,4 +1,4 @@
--- What a monitor represents.
+-- The rows that a monitor represents.
 
 use Rattle.std.specs.Prelude.{◌≡◌, ◌↔◌, ℕ, ◌+◌, ◌<◌, ◌≤◌, Option, List, [], ◌∷◌, ◌++◌, length, map, IfNone, IfSome}
 use Rattle.std.specs.Prelude.{IsNone, Some, slice_get, slice_index}
@@ -50,16 +50,16 @@ last_of monitor = monitor.last
 abbrev pub read_of : State → Row
 read_of monitor = monitor.read
 
--- the monitor has taken these rows
+-- the monitor has taken these rows, and its last row is the last of them
 pub record Stands (monitor : State) (rows : List Row) : Type 0 where
   pub taken : running.HasTaken monitor.running rows
   pub last : (before : List Row) (row : Row) → rows ≡ before ++ row ∷ [] → last_of monitor ≡ row
 
--- the reports that a monitor of these rows has still to return
+-- the reports that a monitor of these rows hasn't returned yet
 abbrev pub open_in : Style → State → List Row → List Report
 open_in style monitor rows = running.open_by style monitor.running rows
 
--- it has no report to give, in either style
+-- the monitor has no report to return, in either style
 abbrev pub IsDrained : State → Type 0
 IsDrained monitor = running.IsDrained monitor.running
 
@@ -67,18 +67,18 @@ IsDrained monitor = running.IsDrained monitor.running
 abbrev pub left_to_tell : State → ℕ
 left_to_tell monitor = running.left_to_tell monitor.running
 
--- the result is the first of the reports that were open, and the others still are
+-- the result is the first of the reports that were open, and the other reports are still open
 abbrev pub ReturnsFirst : Style → Option Report → State → State → List Row → Type 0
 ReturnsFirst style result before after rows = running.YieldsFirst style result before.running after.running rows
 
--- the report was given, and nothing else changed
+-- the report was returned, and nothing else changed
 pub record HasGiven (report : Report) (before after : State) : Type 0 where
   pub moved : after.running ≡ running.after_report report before.running
   pub last : last_of after ≡ last_of before
   pub read : read_of after ≡ read_of before
 
--- A report was returned: it is of an existing output, at a time that was taken, below MAX_MISSION. Nothing else
--- changed, and fewer times are left to report.
+-- A report was returned: it is of an existing output, at a time that was taken, below MAX_MISSION. Nothing else changed, and
+-- fewer times are left to report.
 pub record IsReturned (report : Report) (before after : State) : Type 0 where
   pub moved : HasGiven report before after
   pub exists : report.out < length (program_of before).outs
@@ -86,8 +86,8 @@ pub record IsReturned (report : Report) (before after : State) : Type 0 where
   pub early : report.time < MAX_MISSION
   pub fewer : left_to_tell after < left_to_tell before
 
--- The first report that was open in a style was returned, and the others are still open; where there was none,
--- nothing changed. The monitor represents the same rows.
+-- The first report that was open in a style was returned, and the other reports are still open; if none was open, nothing
+-- changed. The monitor represents the same rows.
 pub record ReturnsNext (style : Style) (result : Option Report) (before after : State) : Type 0 where
   pub first : (rows : List Row) → Stands before rows → ReturnsFirst style result before after rows
   pub stands : (rows : List Row) → Stands before rows → Stands after rows
@@ -98,12 +98,12 @@ pub record ReturnsNext (style : Style) (result : Option Report) (before after : 
   pub program : program_of after ≡ program_of before
   pub as_many : taken_by after ≡ taken_by before
 
--- nothing changed of what the monitor represents
+-- the monitor represents the same as before
 pub record IsSame (before after : State) : Type 0 where
   pub running : after.running ≡ before.running
   pub last : last_of after ≡ last_of before
 
--- the monitor has taken one more row, and has all its reports still to give; no next time has moved
+-- the monitor has taken one more row, and has returned no report of it; no next time has moved
 pub record TakesRow (row : Row) (before after : State) : Type 0 where
   pub program : program_of after ≡ program_of before
   pub taken : taken_by after ≡ taken_by before + 1
@@ -113,20 +113,21 @@ pub record TakesRow (row : Row) (before after : State) : Type 0 where
       → open_in style after (rows ++ row ∷ []) ≡ of_row style 0 (outputs (program_of before)) rows row
   pub told : places_of after ≡ places_of before
 
--- the words that were known are a prefix of those known now, and the next time of their output is the first past it
+-- the words that were known are a prefix of the words that are known now, and the next time of their output is the first
+-- past them
 pub record GoesOnPast (known now : List Word) (next_time : ℕ) : Type 0 where
   pub begins : IsPrefix known now
   pub next : next_time ≡ length known
 
--- after the row each output goes on past the words that were known before
+-- after the row, each output goes on past the words that were known before
 abbrev pub KeepsKnown : Row → State → State → Type 0
 KeepsKnown row before after =
     (rows : List Row) (k : ℕ) (o : Output) → Stands before rows
     → slice_get (outputs (program_of after)) k ≡ Some o
     → GoesOnPast (words rows o) (words (rows ++ row ∷ []) o) (slice_index (places_of after) k)
 
--- what holds of each monitor: it represents some rows, at most MAX_MISSION of them, its Booleanizer has the numbers of
--- the last one, and it has room for a row
+-- each monitor represents some rows, at most MAX_MISSION of them, its Booleanizer has the numbers of the last one, and it
+-- has room for a row
 pub record MonitorIsSound (monitor : State) : Type 0 where
   pub some : (rows : List Row) × Stands monitor rows
   pub early : taken_by monitor ≤ MAX_MISSION

@@ -1,4 +1,4 @@
--- What one call that takes a row and gives its reports returns.
+-- Results of one call that takes a row and returns its reports.
 
 use Rattle.std.specs.Prelude.{◌≡◌, ◌+◌, List, [], ◌∷◌, ◌++◌}
 use Rattle.mltl_base.specs.declared.report.Report.{Report}
@@ -9,7 +9,7 @@ use Rattle.mltl_base.specs.Reports.{of_row}
 use Rattle.r2u2_monitor.specs.declared.state.State.{State}
 use Rattle.r2u2_monitor.specs.Monitoring.{Stands, last_of, open_in, program_of, read_of, taken_by}
 
--- these reports were returned, the first of those that were open, and the others still are, after the same rows
+-- these reports were returned, the first of the open reports, and the others are still open, after the same rows
 pub record ReturnsMany (style : Style) (told : List Report) (before after : State) : Type 0 where
   pub first : (rows : List Row) → Stands before rows
       → open_in style before rows ≡ told ++ open_in style after rows
@@ -19,7 +19,7 @@ pub record ReturnsMany (style : Style) (told : List Report) (before after : Stat
   pub last : last_of after ≡ last_of before
   pub read : read_of after ≡ read_of before
 
--- The monitor has taken one more row. These reports were returned, the first of those that it brings, and the others
+-- The monitor has taken one more row. These reports were returned, the first of the reports that it brings, and the others
 -- are open.
 pub record StepsOver (style : Style) (row : Row) (told : List Report) (before after : State) : Type 0 where
   pub brings : (rows : List Row) → Stands before rows

@@ -1,5 +1,4 @@
--- The most steps of one row, by the program alone: from the question whether it can be taken to the last of its
--- reports.
+-- The most steps of one row, by the program alone: from the check of the row to the last of its reports.
 
 use Rattle.std.specs.Prelude.{ℕ, ◌+◌, ◌*◌, length}
 use Rattle.mltl_base.specs.declared.program.Program.{Program}
@@ -7,19 +6,19 @@ use Rattle.ft_engine.specs.Running as future
 use Rattle.pt_boxes.specs.Running as past
 use Rattle.r2u2_monitor.specs.Bursts.{most_reports}
 
--- what runs takes a row: a step for each instruction of the Booleanizer, and those of both engines
+-- the engines take a row: a step for each instruction of the Booleanizer, and the steps of both engines
 abbrev pub running_work : Program → ℕ
 running_work program = length program.bz + future.row_work program + past.row_work program
 
--- The row is tried and taken: a step for each output, of which each may have a report left, for each instruction of the
--- Booleanizer, which may read a column, and for each column; then what runs takes it.
+-- The row is checked and taken: a step for each output, which may have a report left, for each instruction of the
+-- Booleanizer, which may read a column, and for each column; then the engines take the row.
 abbrev pub taking_work : Program → ℕ
 taking_work program = length program.outs + length program.bz + program.width + running_work program + 1
 
--- so many reports are asked for, and once more: a step for each output, and two for each question
+-- this number of reports, and the end after them, are searched for: a step for each output, and two for each search
 abbrev pub telling_work : Program → ℕ → ℕ
 telling_work program reports = length program.outs + 2 * (reports + 1)
 
--- the row is taken, and its reports are asked for
+-- the row is taken, and its reports are searched for
 abbrev pub row_work : Program → ℕ
 row_work program = taking_work program + telling_work program (most_reports program)

@@ -1,4 +1,4 @@
-//! How many reports one row brings at most, as known from the program alone.
+//! The most reports of one row, as known from the program alone.
 
 ghost use Rattle.std.specs.Prelude.{◌≡◌, ◌*◌, ◌^◌, ◌<◌, ◌≤◌, All, length, sum_by};
 ghost use Rattle.mltl_base.specs.declared.interval.Engine.TheVariants.{Ft as Future};
@@ -9,8 +9,8 @@ ghost use Rattle.r2u2_monitor.specs.Bursts.{most_of, most_over, most_reports, sp
 use mltl_base::{Engine, Out};
 use obs_verify::Checked;
 
-/// The most reports that one row brings, of all outputs together: as many with one report for each time, and no more
-/// with one for each run. It takes no memory.
+/// Returns the most reports that one row brings, of all outputs together. They are as many with one
+/// report for each time, and no more with one for each run. It takes no memory.
 pub fn most_reports(checked: &Checked) -> u64
     ensures most { result ≡ most_reports checked.now }
     ensures few { result < 2 ^ 57 }
@@ -32,7 +32,7 @@ fn most_of_outputs(checked: &Checked, outs: &[Out]) -> u64
     most
 }
 
-/// The most reports of one output.
+/// Returns the most reports of one output.
 fn most_of_output(checked: &Checked, out: &Out) -> u64
     requires { NamesInstructions (length checked.now.ft) (length checked.now.pt) out.now }
     ensures most { result ≡ most_of checked.now out.now }
@@ -56,7 +56,8 @@ fn most_of_two(checked: &Checked, engine: Engine, i: u32, j: u32) -> u64
     }
 }
 
-/// The most reports of an output over two future-time instructions, the first of which decides alone at the earliest.
+/// Returns the most reports of an output over two future-time instructions, if the first alone
+/// decides at the earliest.
 #[tactic(auto, using(crate::proofs::Delays::future_delay, crate::proofs::Delays::future_best))]
 fn most_of_future(checked: &Checked, i: u32, j: u32) -> u64
     requires first { i < length checked.now.ft }

@@ -1,5 +1,6 @@
-//! How many bytes a monitor takes: the blocks of all lists that it holds, by the sizes of their elements. These are
-//! compared with the types for x86-64, and were counted the same on aarch64.
+//! The bytes that a monitor takes: the blocks of all lists that it holds, by the sizes of their
+//! elements. The sizes are compared with the types for x86-64, and were the same when counted on
+//! aarch64.
 
 ghost use Rattle.std.specs.Prelude.{◌≡◌, ◌+◌, ◌*◌, ◌<◌, ◌^◌};
 ghost use Rattle.mltl_base.specs.Room.{room};
@@ -31,11 +32,11 @@ pub const SIGNAL_BYTES: usize = 72;
 pub const SIZE_BYTES: usize = 4;
 /// The bytes of the number of a signal that an instruction reads, if it reads one.
 pub const READER_BYTES: usize = 8;
-/// The bytes of a number of a row, and of one of the Booleanizer.
+/// The bytes of a number of a row, and of a number of the Booleanizer.
 pub const NUMBER_BYTES: usize = 8;
 /// The bytes of a time.
 pub const TIME_BYTES: usize = 8;
-/// The bytes of how a column is read.
+/// The bytes of the reading of a column.
 pub const READING_BYTES: usize = 1;
 /// The bytes of a monitor itself, wherever its caller puts it.
 pub const MONITOR_BYTES: usize = 488;
@@ -62,7 +63,7 @@ const _: () = prove!(size_of::<Reading>() == READING_BYTES);
 
 const _: () = prove!(size_of::<Monitor>() == MONITOR_BYTES);
 
-/// Returns the bytes of the block of a list with `count` members.
+/// Returns the bytes of the block of a list that has room for `len` members.
 fn list_bytes(size: usize, len: usize) -> u64
     requires small { size < 2 ^ 8 }
     requires few { len < 2 ^ 32 }
@@ -72,7 +73,7 @@ fn list_bytes(size: usize, len: usize) -> u64
     (size * room_of(len)) as u64
 }
 
-/// The bytes that a checked program takes.
+/// Returns the bytes that a checked program takes.
 fn checked_bytes(program: &Program) -> u64
     requires { HasLayout program.now }
     ensures bytes { result ≡ checked_bytes program.now }
@@ -92,7 +93,7 @@ fn checked_bytes(program: &Program) -> u64
         + list_bytes(READER_BYTES, program.bz.len())
 }
 
-/// The bytes of how columns are read, and of a row.
+/// Returns the bytes of the readings of columns, and of a row.
 fn column_bytes(width: u32) -> u64
     ensures bytes { result ≡ READING_BYTES * width + NUMBER_BYTES * width }
     ensures few { result < 2 ^ 37 }
@@ -100,7 +101,7 @@ fn column_bytes(width: u32) -> u64
     (READING_BYTES + NUMBER_BYTES) as u64 * u64::from(width)
 }
 
-/// The bytes of what runs and of the columns.
+/// Returns the bytes of the engines, the outputs and the columns.
 fn running_bytes(program: &Program) -> u64
     requires layout { HasLayout program.now }
     requires future { RunsFuture program.now }
@@ -119,8 +120,8 @@ fn running_bytes(program: &Program) -> u64
         + column_bytes(program.width)
 }
 
-/// How many bytes a monitor of the program takes when it is loaded, in all its blocks together, besides the
-/// `MONITOR_BYTES` of the monitor itself. It takes none for the answer.
+/// Returns the bytes that a monitor of the program takes when it is loaded, in all its blocks
+/// together, besides the `MONITOR_BYTES` of the monitor itself. It takes no memory.
 #[tactic(auto, using(obs_verify::proofs::RunLaws::runs_future))]
 pub fn monitor_bytes(checked: &Checked) -> u64
     ensures bytes { result ≡ monitor_bytes checked.now }

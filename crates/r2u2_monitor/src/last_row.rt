@@ -15,11 +15,11 @@ impl Model for LastRow {
     ghost also_owns = { λ _. ftrue };
 }
 
-// It owns nothing.
+// A last row owns nothing.
 unsafe impl Send for LastRow {}
 
 impl LastRow {
-    /// These numbers.
+    /// Makes a last row of these numbers, for contracts.
     #[inline(always)]
     pub fn of(_row: &[i64]) -> LastRow
         ensures { result.numbers ≡ _row.now }

@@ -1,4 +1,5 @@
-//! What the definitions of a monitor say together: each law is the contract of a function with an empty body.
+//! Laws that follow from the definitions of a monitor. Each law is the contract of a function with
+//! an empty body.
 
 ghost use Rattle.std.specs.Prelude.{◌≡◌, ◌↔◌, ℕ, ◌+◌, ◌*◌, ◌<◌, ◌≤◌, List, [], ◌∷◌, Some, Contains, length, slice_get, slice_index, sum};
 ghost use Rattle.mltl_base.specs.declared.program.Out.{Out as Reported};
@@ -30,7 +31,8 @@ ghost use Rattle.r2u2_monitor.specs.Holders.{bytes_in_booleanizer, bytes_in_chec
 ghost use Rattle.r2u2_monitor.specs.Monitoring.{IsDrained, MonitorIsSound, Stands, TakesRow, open_in, places_of, program_of, room_total_of, slot_total_of, slots_of};
 ghost use Rattle.r2u2_monitor.specs.RowFaults.{FitsColumn};
 
-/// Each future-time instruction has the slots that are stored for it, which are as many as it needs.
+/// Each future-time instruction has the slots that the program stores for it, which are as many as
+/// it needs.
 #[tactic(auto, using(crate::proofs::Keeping::slots_needed))]
 pub fn slots_are_those_needed()
     ensures stored { (monitor : Shown) (rows : List Row) → Stands monitor rows
@@ -40,8 +42,8 @@ pub fn slots_are_those_needed()
         ≡ queue_lengths (program_of monitor).ft (program_of monitor).outs }
 {}
 
-/// The slots of all future-time instructions together, and the boxes that all past-time ones have room for, are as many
-/// as are stored, which are as many as the program needs. None is left over.
+/// The slots of all future-time instructions, and the room for boxes of all past-time instructions,
+/// are the stored numbers, which are the numbers that the program needs. None is left over.
 #[tactic(auto, using(crate::proofs::Keeping::none_left_over))]
 pub fn no_slot_is_left_over()
     ensures slots { (monitor : Shown) (rows : List Row) → Stands monitor rows
@@ -53,14 +55,15 @@ pub fn no_slot_is_left_over()
         (program_of monitor).ft (program_of monitor).pt (program_of monitor).outs }
 {}
 
-/// A monitor holds the bytes that its program says, at any time.
+/// A monitor holds the bytes that its program predicts, at any time.
 #[tactic(auto, using(crate::proofs::Holding::holds_what_it_takes))]
 pub fn monitors_keep_their_bytes()
     ensures { (monitor : Shown) → MonitorIsSound monitor
         → bytes_of monitor ≡ monitor_bytes (program_of monitor) }
 {}
 
-/// What contracts see of a checked program, and of a monitor, is counted as all of their fields hold: each is named.
+/// The bytes that contracts count for a checked program, and for a monitor, are the bytes of all of
+/// their fields, each of which is named.
 #[tactic(auto, using(crate::proofs::Holding::checked_fields, crate::proofs::Holding::monitor_fields))]
 pub fn fields_hold_what_is_counted()
     ensures checked { (fields : CheckedFields) → checked_shown.invariant fields
@@ -79,15 +82,16 @@ pub fn fields_hold_one_list()
         → bytes_in_readings fields ≡ READING_BYTES * length (readings_shown.view fields) }
 {}
 
-/// A monitor has no report to return exactly where nothing is open after the rows that it represents, in either
-/// style.
+/// A monitor has no report to return if and only if nothing is open after the rows that it
+/// represents, in either style.
 pub fn drained_is_nothing_open()
     ensures { (style : Form) (monitor : Shown) (rows : List Row) → Stands monitor rows
         → IsDrained monitor ↔ (open_in style monitor rows ≡ []) }
 {}
 
-/// The queues keep the verdicts that an output reads from its next time on. Where all reports were given, this time is
-/// the number of its known words, and at least n less the width of each instruction that it reports.
+/// The queues keep the verdicts that an output reads from its next time on. When all reports were
+/// returned, this time is the number of its known words, and at least n less the width of each
+/// instruction that it reports.
 #[tactic(auto, using(crate::proofs::Keeping::entries_stay, crate::proofs::Keeping::told_places, crate::proofs::Keeping::told_wide))]
 pub fn reads_are_kept()
     ensures kept { (monitor : Shown) (rows : List Row) (k g : ℕ) (output : Reported) →
@@ -118,7 +122,7 @@ pub fn reports_are_settled()
         → IsSettled rows o t report.word }
 {}
 
-/// Where all reports were returned, each time below n less the delay of an output was reported.
+/// When all reports were returned, each time below n less the delay of an output was reported.
 #[tactic(auto, using(crate::proofs::Keeping::told_in_time))]
 pub fn reports_come_in_time()
     ensures told { (monitor : Shown) (rows : List Row) (k : ℕ) (o : Output) →
@@ -127,13 +131,14 @@ pub fn reports_come_in_time()
         → length rows ≤ slice_index (places_of monitor) k + delay o }
 {}
 
-/// A row brings at most as many reports as `most_reports` says of the program, in either style.
+/// A row brings at most as many reports as `most_reports` returns for the program, in either style.
 pub fn rows_bring_few_reports()
     ensures { (row : Row) (before after : Shown) → TakesRow row before after
         → OpensFew row before after }
 {}
 
-/// Numbers are a row of a program exactly where there is one for each column, and each column can hold its number.
+/// Numbers are a row of a program if and only if there is one for each column, and each column can
+/// hold its number.
 #[tactic(auto, using(crate::proofs::Fitting::fit_from_columns))]
 pub fn fit_rows_fit_each_column()
     ensures wide { (program : Observer) (row : Row) → IsFit program row

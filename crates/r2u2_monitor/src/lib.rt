@@ -1,7 +1,9 @@
-//! The monitor of a checked program: it takes rows one by one, and gives the reports that each row brings.
+//! The monitor of a checked program: it takes rows one by one, and returns the reports that each
+//! row brings.
 //!
-//! What a program that embeds a monitor names is here: the [`Monitor`] with its rows, faults and reports, the [`Checked`]
-//! program that it is loaded with, and the call that binds a program to the columns of a header, [`bind_to_header`].
+//! This crate exports all that a program that embeds a monitor uses: the [`Monitor`] with its rows,
+//! faults and reports, the [`Checked`] program that it is loaded with, and the call that binds a
+//! program to the columns of a header, [`bind_to_header`].
 #![tactic(auto)]
 
 mod bursts;

@@ -21,13 +21,13 @@ use trace_feed::{Readings, RowAnswer, row_fields_by};
 #[derive(Drop)]
 pub struct Monitor {
     running: Running,
-    /// The row that was taken last, which contracts alone see.
+    /// The row that was taken last, for contracts alone.
     last: LastRow,
     /// Room for a row that is read and isn't taken yet.
     read: Fixed<i64>,
-    /// How the program reads each column.
+    /// The readings of the columns.
     readings: Readings,
-    /// Where the search for the next report of the last row goes on.
+    /// The place from which the search for the next report of the last row goes on.
     cursor: Cursor,
 }
 
@@ -63,8 +63,8 @@ impl Monitor {
     ghost use Rattle.r2u2_monitor.specs.Monitoring.{KeepsKnown, ReturnsNext, IsDrained, IsSame, Stands, TakesRow, last_of, open_in, program_of, read_of, taken_by};
     ghost use Rattle.r2u2_monitor.specs.RowFaults.{IsReady, IsRowCause, IsUnfitAt};
 
-    /// Makes a monitor that has taken no rows. It allocates all memory here, in blocks of as many bytes as its
-    /// program says.
+    /// Makes a monitor that has taken no rows. It allocates all memory, in blocks of as many bytes
+    /// as the program predicts.
     pub fn load(alloc: Global, checked: Checked) -> Result<Monitor, AllocError>
         ensures program { IfOk result (λ monitor. program_of monitor ≡ checked) }
         ensures taken { IfOk result (λ monitor. taken_by monitor ≡ 0) }
@@ -96,14 +96,14 @@ impl Monitor {
         self.cursor = Cursor::start();
     }
 
-    /// The program.
+    /// Returns the program.
     pub fn checked(&self) -> &Checked
         ensures program { result.now ≡ program_of self.now }
     {
         &self.running.checked
     }
 
-    /// The number of rows that it has taken, at most `MAX_MISSION`.
+    /// Returns the number of rows that the monitor has taken, at most `MAX_MISSION`.
     pub fn rows_taken(&self) -> u64
         ensures taken { result ≡ taken_by self.now }
         ensures early { result ≤ MAX_MISSION }
@@ -111,8 +111,8 @@ impl Monitor {
         self.running.taken
     }
 
-    /// Takes the next row, with one number for each column, if it is valid and the monitor is ready for it. Otherwise
-    /// nothing changes, and the first cause is returned. It does not allocate.
+    /// Takes the next row, with one number for each column, if it is valid and the monitor is ready
+    /// for it. Otherwise nothing changes, and the first cause is returned. It doesn't allocate.
     #[inline(always)]
     pub fn take(&mut self, row: &[i64]) -> Result<(), RowFault>
         ensures takes { OnOk result (TakesRow row.now self.old self.new) }
@@ -139,8 +139,9 @@ impl Monitor {
         self.try_take(row, &mut Steps::<L>::start(blank))
     }
 
-    /// Takes the next row as `take` does. Its steps are the outputs that it asks for reports, the instructions of the
-    /// Booleanizer and the columns, and those of `advance`.
+    /// Takes the next row as `take` does. It counts a step for each output that it checks for
+    /// reports, for each instruction of the Booleanizer and for each column, and the steps of
+    /// `advance`.
     #[inline(always)]
     #[tactic(auto, using(crate::proofs::Fitting::unready))]
     pub fn try_take<L: Ledger>(&mut self, row: &[i64], steps: &mut Steps<L>) -> Result<(), RowFault>
@@ -165,9 +166,9 @@ impl Monitor {
         Ok(())
     }
 
-    /// Takes the next row as `take` does, and writes its reports, in a style, to the front of a slice, as many as there is
-    /// room for. Returns how many there were; where there was room for more, none is left. From the first question to the
-    /// last report it takes no more steps than `row_work` says.
+    /// Takes the next row as `take` does, writes as many of its reports, in a style, as there is
+    /// room for to the front of a slice, and returns their number. If there was room for more, none
+    /// is left. The check, the row and its reports take no more steps than `row_work` returns.
     pub fn step<L: Ledger>(
         &mut self,
         row: &[i64],
@@ -191,7 +192,8 @@ impl Monitor {
         }
     }
 
-    /// The first column from which the numbers aren't a row of the program. None where they are one.
+    /// Returns the first column from which the numbers aren't a row of the program, or `None` if
+    /// they are a row.
     fn unfit_column<L: Ledger>(&self, row: &[i64], steps: &mut Steps<L>) -> Option<u32>
         ensures unfit { MatchOption result (IsFit (program_of self.now) row.now)
             (λ column. IsUnfitAt (program_of self.now) row.now column) }
@@ -203,9 +205,10 @@ impl Monitor {
         unfit_column(&self.running.checked, &self.readings, row, steps)
     }
 
-    /// Takes the next row, of one number for each column. It looks at the columns that the program reads alone, and copies
-    /// none. Its steps are the instructions of the Booleanizer, and the reads and writes of queues and boxes. It brings at most
-    /// as many reports as `most_reports` says, and what was known before is a prefix of what is known after it.
+    /// Takes the next row, of one number for each column. It looks at the columns that the program
+    /// reads alone, and copies none. Its steps are the instructions of the Booleanizer, and the
+    /// reads and writes of queues and boxes. It brings at most `most_reports`, and the words that
+    /// were known are a prefix of the words that are known after it.
     pub fn advance<L: Ledger>(&mut self, fields: &[i64], steps: &mut Steps<L>)
         requires drained { IsDrained self.old }
         requires early { taken_by self.old < MAX_MISSION }
@@ -220,7 +223,7 @@ impl Monitor {
         self.cursor = Cursor::start();
     }
 
-    /// Reads the row of a line, if the line is one, and keeps it aside. Nothing else changes.
+    /// Reads the row of a line, if the line has one, and keeps it aside. Nothing else changes.
     pub fn read_line(&mut self, line: &[u8]) -> RowAnswer
         ensures told { IsMeaningOf result (read_of self.new)
             (line_meaning (program_of self.old) line.now) }
@@ -235,7 +238,8 @@ impl Monitor {
         )
     }
 
-    /// Takes the last row once more, by the numbers that the Booleanizer has of it. A row that was read stays.
+    /// Takes the last row once more, with the numbers that the Booleanizer has of it. A row that
+    /// was read stays.
     pub fn repeat_last<L: Ledger>(&mut self, steps: &mut Steps<L>)
         requires begun { 0 < taken_by self.old }
         requires drained { IsDrained self.old }
@@ -262,7 +266,8 @@ impl Monitor {
         self.cursor = Cursor::start();
     }
 
-    /// The next report of the last row, in a style. `None`, and no change, where none is left.
+    /// Returns the next report of the last row, in a style. If none is left, returns `None`, and
+    /// nothing changes.
     #[inline(always)]
     pub fn next(&mut self, style: Style) -> Option<Report>
         ensures { ReturnsNext style result self.old self.new }
@@ -270,7 +275,7 @@ impl Monitor {
         self.next_alone::<Brand>(style, Blank::new(1))
     }
 
-    /// The next report, with a separate counter.
+    /// Returns the next report, with a separate counter.
     #[inline(always)]
     fn next_alone<L: Ledger>(&mut self, style: Style, blank: Blank) -> Option<Report>
         requires name { blank.name ≡ L.name }
@@ -282,9 +287,9 @@ impl Monitor {
         self.running.next(style, &mut self.cursor, &mut steps)
     }
 
-    /// Writes the next reports of the last row, in a style, to the front of a slice, as many as there is room for, and returns
-    /// how many there were. Where there was room for more, none is left. Its steps are the outputs that it looks at, and two
-    /// for each report.
+    /// Writes as many of the next reports of the last row, in a style, as there is room for to the
+    /// front of a slice, and returns their number. If there was room for more, none is left. Its
+    /// steps are the outputs that it looks at, and two for each report.
     pub fn next_many<L: Ledger>(
         &mut self,
         style: Style,
@@ -301,22 +306,24 @@ impl Monitor {
             .next_many(style, &mut self.cursor, reports, steps)
     }
 
-    /// The next report of the last row, one for each newly known time. `None`, and no change, where none is left.
+    /// Returns the next report of the last row, one for each newly known time. If none is left,
+    /// returns `None`, and nothing changes.
     pub fn next_report(&mut self) -> Option<Report>
         ensures { ReturnsNext Each result self.old self.new }
     {
         self.next(Style::Each)
     }
 
-    /// The next report of the last row, one for each longest stretch of newly known times with one word, with its last
-    /// time. `None`, and no change, where none is left.
+    /// Returns the next report of the last row, one for each longest stretch of newly known times
+    /// with one word, with its last time. If none is left, returns `None`, and nothing changes.
     pub fn next_run(&mut self) -> Option<Report>
         ensures { ReturnsNext Runs result self.old self.new }
     {
         self.next(Style::Runs)
     }
 
-    /// The line of a report that was given: the name of its output, its time and its word, with a newline.
+    /// Returns the line of a report that was returned: the name of its output, its time and its
+    /// word, with a newline.
     pub fn line_of(&self, report: &Report) -> ArrayVec<u8, 128>
         requires exists { report.now.out < length (program_of self.now).outs }
         requires early { report.now.time < TIME_END }
@@ -326,7 +333,7 @@ impl Monitor {
         line_of(report, self.checked())
     }
 
-    /// Whether all reports were given.
+    /// Returns true if all reports were returned.
     pub fn is_drained(&self) -> bool
         ensures drained { IsTrue result ↔ IsDrained self.now }
         ensures open { (style : Form) (rows : List Row) → Stands self.now rows
@@ -335,7 +342,7 @@ impl Monitor {
         self.drained_alone::<Brand>(Blank::new(1))
     }
 
-    /// Whether all reports were given, with a separate counter.
+    /// Returns true if all reports were returned, with a separate counter.
     fn drained_alone<L: Ledger>(&self, blank: Blank) -> bool
         requires name { blank.name ≡ L.name }
         requires parts { blank.parts ≡ L.parts }
@@ -347,7 +354,8 @@ impl Monitor {
         self.drained_in(&mut Steps::<L>::start(blank))
     }
 
-    /// Whether all reports were given, in steps that are the outputs that it looks at. It represents some rows at any time.
+    /// Returns true if all reports were returned. Its steps are the outputs that it looks at. The
+    /// monitor represents some rows at any time.
     #[inline(always)]
     fn drained_in<L: Ledger>(&self, steps: &mut Steps<L>) -> bool
         ensures drained { IsTrue result ↔ IsDrained self.now }

@@ -1,4 +1,4 @@
-//! What a monitor of a program takes and when it reports, as known from the program alone.
+//! Delays and steps of a monitor, as known from its program alone.
 
 ghost use Rattle.std.specs.Prelude.{◌≡◌, ◌+◌, ◌*◌, ◌^◌, ◌<◌, ◌≤◌, All, length, option_map, slice_get, slice_index, sum, sum_by};
 ghost use Rattle.mltl_base.specs.declared.interval.Engine.TheVariants.{Ft as Future};
@@ -16,8 +16,8 @@ use crate::bursts::most_reports;
 use mltl_base::{Engine, FtOp, Out, Program};
 use obs_verify::Checked;
 
-/// Returns the worst-case delay of output `k`, counted from 0, in rows: the row at time `t + delay` reports its time
-/// `t` at the latest. `None` where there is no such output.
+/// Returns the worst-case delay of output `k`, counted from 0, in rows, or `None` if there is no
+/// such output. The row at time `t + delay` reports the output's time `t` at the latest.
 pub fn delay_of(checked: &Checked, k: u32) -> Option<u32>
     ensures { result ≡ option_map delay (slice_get (outputs checked.now) k) }
 {
@@ -48,8 +48,9 @@ fn delay_of_formula(checked: &Checked, engine: Engine, i: u32) -> u32
     }
 }
 
-/// The most steps of one row, from the question whether it can be taken to the last of its reports: instructions of the three
-/// parts, with the reads and writes of queues and boxes, columns, outputs, and reports.
+/// Returns the most steps of one row, from the check of the row to the last of its reports:
+/// instructions of the three parts, with the reads and writes of queues and boxes, columns,
+/// outputs, and reports.
 #[tactic(auto, using(obs_verify::proofs::RunLaws::runs_future))]
 pub fn row_work(checked: &Checked) -> u64
     ensures { result ≡ row_work checked.now }
@@ -58,7 +59,7 @@ pub fn row_work(checked: &Checked) -> u64
     taking_steps(program) + telling_steps(program, most_reports(checked))
 }
 
-/// The most steps in which a row is tried and taken.
+/// Returns the most steps in which a row is checked and taken.
 fn taking_steps(program: &Program) -> u64
     requires layout { HasLayout program.now }
     requires future { RunsFuture program.now }
@@ -70,7 +71,7 @@ fn taking_steps(program: &Program) -> u64
     looked_at + column_steps(program.width) + running_steps(program) + 1
 }
 
-/// A step for each column.
+/// Returns a step for each column.
 fn column_steps(width: u32) -> u64
     ensures steps { result ≡ width }
     ensures few { result < 2 ^ 32 }
@@ -78,7 +79,8 @@ fn column_steps(width: u32) -> u64
     u64::from(width)
 }
 
-/// The most steps in which so many reports are asked for, and once more.
+/// Returns the most steps in which this number of reports, and the end after them, are searched
+/// for.
 fn telling_steps(program: &Program, reports: u64) -> u64
     requires layout { HasLayout program.now }
     requires few { reports < 2 ^ 57 }
@@ -88,7 +90,8 @@ fn telling_steps(program: &Program, reports: u64) -> u64
     program.outs.len() as u64 + 2 * (reports + 1)
 }
 
-/// The most steps in which what runs takes a row: instructions of the Booleanizer, and reads and writes of queues and boxes.
+/// Returns the most steps in which the engines take a row: instructions of the Booleanizer, and
+/// reads and writes of queues and boxes.
 fn running_steps(program: &Program) -> u64
     requires layout { HasLayout program.now }
     requires future { RunsFuture program.now }
@@ -117,7 +120,7 @@ fn future_steps(ops: &[FtOp], sizes: &[u32]) -> u64
     steps
 }
 
-/// The most steps of one instruction.
+/// Returns the most steps of one instruction.
 fn steps_of(op: &FtOp, sizes: &[u32], i: usize) -> u64
     requires order { IsAfterOperands i op.now }
     requires inside { i < length sizes.now }
@@ -128,7 +131,7 @@ fn steps_of(op: &FtOp, sizes: &[u32], i: usize) -> u64
     4 * (u64::from(operand_slots(op, sizes, i)) + u64::from(sizes[i]) + 2)
 }
 
-/// The most slots of an operand.
+/// Returns the most slots of an operand.
 fn operand_slots(op: &FtOp, sizes: &[u32], i: usize) -> u32
     requires order { IsAfterOperands i op.now }
     requires inside { i < length sizes.now }

@@ -1,18 +1,18 @@
-//! Why a row isn't taken.
+//! Faults of a row.
 
 use std::error::Error;
 use std::fmt;
 
-/// Why a monitor doesn't take a row.
+/// The cause of a row that a monitor doesn't take.
 #[derive(Clone, Copy, PartialEq, Eq, Debug)]
 pub enum RowFault {
-    /// Reports of the last row are still to be asked for.
+    /// Reports of the last row haven't been returned yet.
     ReportsLeft,
-    /// The numbers aren't a row of the program, from this column on, counted from 0: the first that can't hold its
-    /// number; where there are too few numbers the first without one, and where there are too many the first past the
-    /// width.
+    /// The numbers aren't a row of the program from this column on, counted from 0. It is the first
+    /// column without a number if there are too few numbers, the first column past the width if
+    /// there are too many, and else the first column that can't hold its number.
     NotARow(u32),
-    /// `MAX_MISSION` rows were taken.
+    /// The monitor has taken `MAX_MISSION` rows.
     TooManyRows,
 }
 

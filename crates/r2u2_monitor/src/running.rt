@@ -1,4 +1,4 @@
-//! What runs in a monitor.
+//! The engines of a monitor.
 
 ghost use Rattle.std.specs.Prelude.{◌≡◌, [], length, IfOk};
 ghost use Rattle.contract_status.specs.Open.{known_counts_of};
@@ -26,7 +26,8 @@ pub struct Running {
     pub taken: u64,
 }
 
-/// The engines and the outputs of a program, before the first row. It borrows the program, so that no early return owns it.
+/// Makes the engines and the outputs of a program, before the first row. It borrows the program, so
+/// that no early return owns it.
 fn engines(alloc: Global, checked: &Checked) -> Result<(Bz, Ft, Pt, Outs), AllocError>
     ensures numbers { IfOk result (λ made. length made.0 ≡ length checked.now.bz) }
     ensures stand { IfOk result (λ made. StandFor checked.now [] 0 made.1 made.2 made.3) }
@@ -49,7 +50,7 @@ impl Running {
     ghost use Rattle.r2u2_monitor.specs.Running.{EnginesTakeRow, HasTaken, IsDrained, ResumesAt, WritesFront, YieldsMany, YieldsNext, open_by, outs_left};
     ghost use Rattle.r2u2_monitor.specs.Work.{running_work};
 
-    /// Makes the engines of a program, before the first row; the only allocation.
+    /// Makes the engines of a program, before the first row. Only this call allocates.
     pub fn load(alloc: Global, checked: Checked) -> Result<Running, AllocError>
         ensures program { IfOk result (λ running. running.checked ≡ checked) }
         ensures taken { IfOk result (λ running. running.taken ≡ 0) }
@@ -68,7 +69,7 @@ impl Running {
         })
     }
 
-    /// Stands for no rows again, in the memory that it has.
+    /// Resets the engines to their state before the first row, in the memory that they have.
     pub fn reset(&mut self)
         requires some { (rows : List Row) × HasTaken self.old rows }
         ensures program { self.new.checked ≡ self.old.checked }
@@ -83,8 +84,8 @@ impl Running {
         self.taken = 0;
     }
 
-    /// Takes a row. Its steps are the instructions of the Booleanizer, and the reads and writes of queues and boxes. It does
-    /// not allocate.
+    /// Takes a row. Its steps are the instructions of the Booleanizer, and the reads and writes of
+    /// queues and boxes. It doesn't allocate.
     pub fn take<L: Ledger>(&mut self, fields: &[i64], steps: &mut Steps<L>)
         requires some { (rows : List Row) × HasTaken self.old rows }
         requires drained { IsDrained self.old }
@@ -101,7 +102,7 @@ impl Running {
         self.taken += 1;
     }
 
-    /// Takes the last row once more. The Booleanizer has its numbers, so no column is looked at.
+    /// Takes the last row once more. The Booleanizer has its numbers, so no column is read.
     pub fn repeat<L: Ledger>(&mut self, last: &LastRow, steps: &mut Steps<L>)
         requires some { (rows : List Row) × HasTaken self.old rows }
         requires drained { IsDrained self.old }
@@ -117,8 +118,9 @@ impl Running {
         self.taken += 1;
     }
 
-    /// The first report that is open, in a style. `None`, and no change, where none is. The search goes on at the cursor. Its
-    /// steps are itself and the outputs that it looks at.
+    /// Returns the first report that is open, in a style. If none is open, returns `None`, and
+    /// nothing changes. The search goes on at the cursor. Its steps are itself and the outputs that
+    /// it looks at.
     #[inline(always)]
     pub fn next<L: Ledger>(
         &mut self,
@@ -145,8 +147,8 @@ impl Running {
         )
     }
 
-    /// Writes the first reports that are open, in a style, to the front of a slice, as many as there is room for, and returns
-    /// how many there were. Where there was room for more, none is left.
+    /// Writes as many of the first open reports, in a style, as there is room for to the front of a
+    /// slice, and returns their number. If there was room for more, none is left.
     pub fn next_many<L: Ledger>(
         &mut self,
         style: Style,
@@ -173,7 +175,8 @@ impl Running {
         reports.len()
     }
 
-    /// Whether no report is open, in either style. The search goes on at the cursor. Its steps are the outputs that it looks at.
+    /// Returns true if no report is open, in either style. The search goes on at the cursor. Its
+    /// steps are the outputs that it looks at.
     #[inline(always)]
     pub fn is_drained<L: Ledger>(&self, cursor: Cursor, steps: &mut Steps<L>) -> bool
         requires some { (rows : List Row) × HasTaken self.now rows }

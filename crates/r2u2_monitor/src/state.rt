@@ -1,10 +1,10 @@
-//! What contracts see of a monitor.
+//! The state of a monitor, for contracts.
 
 use crate::running::Running;
 use mltl_base::Fixed;
 
-/// What runs, the row that was taken last, and a row that was read and isn't taken yet. No code makes one: it is what a
-/// clause sees where it speaks of a monitor.
+/// The engines, the row that was taken last, and a row that was read and isn't taken yet. No code
+/// makes a state: contracts see a monitor as one.
 #[derive(Drop)]
 pub struct State {
     pub running: Running,

@@ -1,4 +1,4 @@
-//! Where numbers aren't a row.
+//! The first column from which numbers aren't a row.
 
 ghost use Rattle.std.specs.Prelude.{◌≡◌, ◌↔◌, ℕ, ◌+◌, ◌<◌, ◌≤◌, IsTrue, MatchOption, length};
 ghost use Rattle.mltl_base.specs.Programs.{IsFit};
@@ -12,10 +12,11 @@ use obs_verify::Checked;
 use std::sync::ledger::Ledger;
 use trace_feed::{Reading, Readings};
 
-/// Returns the first column from which the numbers aren't a row of the program, or `None` where they are one.
+/// Returns the first column from which the numbers aren't a row of the program, or `None` if they
+/// are a row.
 ///
-/// A row that fits is found by the instructions alone, which read few of many columns. Its steps are the instructions and
-/// the columns that it looks at.
+/// A row that fits is found with the instructions alone, which read few of many columns. The steps
+/// are the instructions and the columns that it looks at.
 pub(crate) fn unfit_column<L: Ledger>(
     checked: &Checked,
     readings: &Readings,
@@ -42,7 +43,7 @@ pub(crate) fn unfit_column<L: Ledger>(
     }
 }
 
-/// The first column that can't hold its number.
+/// Returns the first column that can't hold its number.
 fn first_unfit<L: Ledger>(
     readings: &[Reading],
     row: &[i64],
@@ -65,7 +66,7 @@ fn first_unfit<L: Ledger>(
     None
 }
 
-/// Whether a column that is read so can hold a number.
+/// Returns true if a column with this reading can hold the number.
 fn can_hold(reading: Reading, number: i64) -> bool
     ensures { IsTrue result ↔ CanHold reading number }
 {
