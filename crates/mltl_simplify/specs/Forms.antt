@@ -1,4 +1,4 @@
--- What occurs in a formula. Contracts use this file.
+-- The intervals and atoms that occur in a formula. Contracts use this file.
 
 use Rattle.std.specs.Prelude.{ℕ, ◌≡◌, ◌⊎◌}
 use Rattle.mltl_base.specs.declared.interval.Interval.{Interval}
@@ -12,11 +12,11 @@ use Rattle.c2po_ast.specs.Nodes.{IsBounded}
 abbrev pub from_to : ℕ → ℕ → Interval
 from_to lo hi = record { lo = lo; hi = hi }
 
--- the formula that a signal is
+-- the formula of a Boolean signal
 abbrev pub signal : ℕ → Formula
 signal s = atom (is_true s)
 
--- each interval of the formula runs upward, and no further than the limit
+-- each interval of the formula has a lower bound that isn't above the upper one, and an upper bound within the limit
 abbrev pub AreBounded : Formula → Type 0
 AreBounded p = EachInterval IsBounded p
 

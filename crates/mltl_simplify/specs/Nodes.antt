@@ -1,5 +1,5 @@
--- Nodes that represent the simplified formulas of other nodes. Only inner functions use this file: `simplify`
--- promises the simplified outputs.
+-- Nodes that represent the simplified formulas of other nodes. Only inner functions use this file: the contract of
+-- `simplify` has the simplified outputs.
 
 use Rattle.std.specs.Prelude.{◌≡◌, ◌<◌, ℕ, ℤ, Bool, true, false, not, Option, Some, None, List, length, slice_get, ⊤}
 use Rattle.mltl_base.specs.declared.interval.Interval.{Interval}
@@ -19,39 +19,39 @@ use Rattle.mltl_simplify.specs.Simplify.{simp, simple_and, simple_or, simple_imp
 use Rattle.mltl_simplify.specs.Simplify.{simple_globally, simple_once, simple_historically, as_truth, unless_truth}
 use Rattle.mltl_simplify.specs.Simplify.{unless_false}
 
--- operators over simplified operands, each by its rule
+-- the simplified formula of a connective over two simplified formulas
 abbrev pub simple_logic : logic.LogicOp → plain.Formula → plain.Formula → plain.Formula
 simple_logic logic.TheVariants.And p q = simple_and p q
 simple_logic logic.TheVariants.Or p q = simple_or p q
 simple_logic logic.TheVariants.Implies p q = simple_implies p q
 simple_logic logic.TheVariants.Iff p q = simple_equals p q
 
--- the simplified formula of an operator over a window, of one simplified formula
+-- the simplified formula of a temporal operator over one simplified formula
 abbrev pub simple_window : window.WindowOp → Interval → plain.Formula → plain.Formula
 simple_window window.TheVariants.F i p = simple_finally i p
 simple_window window.TheVariants.G i p = simple_globally i p
 simple_window window.TheVariants.O i p = simple_once i p
 simple_window window.TheVariants.H i p = simple_historically i p
 
--- the simplified formula of an operator over a window, of two simplified formulas
+-- the simplified formula of a temporal operator over two simplified formulas
 abbrev pub simple_between : between.BetweenOp → Interval → plain.Formula → plain.Formula → plain.Formula
 simple_between between.TheVariants.U i p q = unless_truth (as_truth q) (until i p q)
 simple_between between.TheVariants.R i p q = unless_truth (as_truth q) (release i p q)
 simple_between between.TheVariants.S i p q = unless_false (as_truth q) (since i p q)
 
--- the operator leaves the Boolean as it is
+-- the operator over the Boolean is the Boolean
 abbrev pub keeps_truth : window.WindowOp → Bool → Bool
 keeps_truth window.TheVariants.F v = true
 keeps_truth window.TheVariants.G v = true
 keeps_truth window.TheVariants.O v = not v
 keeps_truth window.TheVariants.H v = v
 
--- there is no Boolean that it leaves as it is
+-- the formula isn't a Boolean that the operator leaves as it is
 abbrev pub KeepsNone : window.WindowOp → Option Bool → Type 0
 KeepsNone op None = ⊤
 KeepsNone op (Some v) = keeps_truth op v ≡ false
 
--- the operator is the Boolean on its right
+-- the operator with the Boolean on its right is the Boolean
 abbrev pub gives_truth : between.BetweenOp → Bool → Bool
 gives_truth between.TheVariants.U v = true
 gives_truth between.TheVariants.R v = true
@@ -67,41 +67,41 @@ pub record IsFormulaAt (nodes : List Plain) (n : ℕ) : Type 0 where
   pub the : plain.Formula
   pub has : Has nodes n (formula the)
 
--- further nodes, of which node n is a formula: the older ones stay, and all are as sound as those
+-- the new nodes begin with the old ones, node n of them is the formula, and they are sound if the old ones are
 pub record AddsNodes (old new : List Plain) (n : ℕ) (p : plain.Formula) : Type 0 where
   pub has : Has new n (formula p)
   pub grows : Grows old new
   pub sound : (signals : ℕ) → AreSound signals old → AreSound signals new
 
--- node n is the simplified formula, where the formula has no fault; else some formula
+-- node n is the simplified formula if the formula has no fault, else some formula
 pub record IsSimplified (nodes : List Plain) (n : ℕ) (p : plain.Formula) : Type 0 where
   pub the : plain.Formula
   pub has : Has nodes n (formula the)
   pub simple : formula_fault p ≡ None → the ≡ simp p
 
--- node n represents an integer, which stays, or a formula, which is simplified
+-- node n represents the tree: an integer stays, a formula is simplified
 abbrev pub IsPlaced : List Plain → ℕ → Tree → Type 0
 IsPlaced nodes n (number a) = Has nodes n (number a)
 IsPlaced nodes n (formula p) = IsSimplified nodes n p
 
--- further nodes, of which node n represents a tree of some other nodes: the older ones stay, and where those nodes
--- are sound all are as sound as the older ones
+-- the new nodes begin with the old ones, node n of them represents a tree of `nodes`, and they are sound if `nodes` and the
+-- old ones are
 pub record Places (nodes old new : List Plain) (n : ℕ) (tree : Tree) : Type 0 where
   pub placed : IsPlaced new n tree
   pub grows : Grows old new
   pub sound : (signals : ℕ) → AreSound signals nodes → AreSound signals old → AreSound signals new
 
--- the number is that of the integer, if it is one and has no fault
+-- if the tree is an integer without a fault, the known number is its number
 abbrev pub IsNumbered : Option ℤ → Tree → Type 0
 IsNumbered known (number a) = term_fault a ≡ None → known ≡ number_of a
 IsNumbered known (formula p) = ⊤
 
--- the proxies of the first nodes have the numbers of these
+-- each proxy has the number of its node
 pub record ProxiesAreNumbered (nodes : List Plain) (proxies : List Proxy) : Type 0 where
   pub known : (n : ℕ) (proxy : Proxy) (tree : Tree) → slice_get proxies n ≡ Some proxy → Has nodes n tree
       → IsNumbered proxy.number tree
 
--- each of this many first nodes has a proxy, which represents what the node unfolds to
+-- each of the first `count` nodes has a proxy, which represents the tree that the node unfolds to
 pub record AreSimplified (nodes : List Plain) (count : ℕ) (simple : List Plain) (proxies : List Proxy) : Type 0 where
   pub each : length proxies ≡ count
   pub placed : (n : ℕ) (proxy : Proxy) (tree : Tree) → slice_get proxies n ≡ Some proxy → Has nodes n tree
@@ -109,17 +109,17 @@ pub record AreSimplified (nodes : List Plain) (count : ℕ) (simple : List Plain
   pub numbered : ProxiesAreNumbered nodes proxies
   pub sound : (signals : ℕ) → AreSound signals nodes → AreSound signals simple
 
--- the number of a proxy, where there is one
+-- the number of a proxy, if there is one
 abbrev pub proxy_number : Option Proxy → Option ℤ
 proxy_number (Some proxy) = proxy.number
 proxy_number None = None
 
--- the place of a proxy, where there is one
+-- the place of a proxy; 0 if there is none
 abbrev pub place_in : Option Proxy → ℕ
 place_in (Some proxy) = proxy.place
 place_in None = 0
 
--- the index that represents node n
+-- the index of the node that represents node n
 abbrev pub place_at : List Proxy → ℕ → ℕ
 place_at proxies n = place_in (slice_get proxies n)
 
@@ -127,12 +127,12 @@ place_at proxies n = place_in (slice_get proxies n)
 abbrev pub known_number : List Proxy → ℕ → Option ℤ
 known_number proxies n = proxy_number (slice_get proxies n)
 
--- an output over the indices that represent its nodes
+-- the output over the indices of the nodes that represent its nodes
 abbrev pub out_over : List Proxy → PlainOut → PlainOut
 out_over proxies (Formula engine n name) = Formula engine (place_at proxies n) name
 out_over proxies (Contract engine n m name) = Contract engine (place_at proxies n) (place_at proxies m) name
 
--- the output reads nodes among this many
+-- the output reads only the first `count` nodes
 abbrev pub ReadsNodes : ℕ → PlainOut → Type 0
 ReadsNodes count (Formula engine n name) = n < count
 ReadsNodes count (Contract engine n m name) = (n < count) × (m < count)

@@ -1,5 +1,4 @@
--- Numbers that whole-number expressions without signals are.
--- A reader of the contracts needs this file.
+-- The numbers of integer expressions without signals. A reader of the contracts needs this file.
 
 use Rattle.std.specs.Prelude.{◌≡◌, ◌≢◌, ℤ, pos, neg_ℤ, ◌+ℤ◌, ◌-ℤ◌, ◌*ℤ◌, int_div, int_rem, int_lt, int_le, Bool, not}
 use Rattle.std.specs.Prelude.{FitsSigned, if◌then◌else◌, Option, Some, None, [], ⊤}
@@ -10,11 +9,11 @@ use Rattle.mltl_base.specs.declared.operators.CompareOp as compare
 use Rattle.mltl_base.specs.Atoms.{Term, value}
 use Rattle.mltl_simplify.specs.Simplify.{reads_signal}
 
--- the number that an expression without signals is, on each row
+-- the number of an expression without signals, which is the same on each row
 abbrev pub number_of : Term → Option ℤ
 number_of a = if reads_signal a then None else Some (value a [])
 
--- what an operator makes of two numbers
+-- the result of an operation on two numbers
 abbrev pub computed_number : arith.ArithOp → ℤ → ℤ → ℤ
 computed_number arith.TheVariants.Add x y = x +ℤ y
 computed_number arith.TheVariants.Sub x y = x -ℤ y
@@ -28,22 +27,24 @@ CanDivideBy arith.TheVariants.Div y = y ≢ pos 0
 CanDivideBy arith.TheVariants.Rem y = y ≢ pos 0
 CanDivideBy _ y = ⊤
 
--- the operator can be computed in 64 bits
+-- the operation can be computed in 64 bits
 abbrev pub CanCompute : arith.ArithOp → ℤ → ℤ → Type 0
 CanCompute op x y = CanDivideBy op y × FitsSigned w64 (computed_number op x y)
 
--- what is found for a negation is its number, where the operand's is known and 64 bits suffice
+-- the number that is found for a negative is right, if the operand's number is known and 64 bits suffice; none is found if
+-- it isn't known
 abbrev pub IsNegated : Option ℤ → Option ℤ → Type 0
 IsNegated None found = found ≡ None
 IsNegated (Some x) found = FitsSigned w64 (neg_ℤ x) → found ≡ Some (neg_ℤ x)
 
--- what is found for an operation is its number, where the operands' are known and 64 bits suffice
+-- the number that is found for an operation is right, if both operands' numbers are known and 64 bits suffice; none is found
+-- if one isn't known
 abbrev pub IsComputed : arith.ArithOp → Option ℤ → Option ℤ → Option ℤ → Type 0
 IsComputed op (Some x) (Some y) found = CanCompute op x y → found ≡ Some (computed_number op x y)
 IsComputed op None y found = found ≡ None
 IsComputed op (Some x) None found = found ≡ None
 
--- whether two numbers compare so
+-- the comparison of two numbers holds
 abbrev pub numbers_compare : compare.CompareOp → ℤ → ℤ → Bool
 numbers_compare compare.TheVariants.Eq x y = int_eq x y
 numbers_compare compare.TheVariants.Ne x y = not (int_eq x y)
@@ -52,7 +53,7 @@ numbers_compare compare.TheVariants.Le x y = int_le x y
 numbers_compare compare.TheVariants.Gt x y = int_lt y x
 numbers_compare compare.TheVariants.Ge x y = int_le y x
 
--- the same of numbers that may be known
+-- the result of a comparison of two numbers, if both are known
 abbrev pub compared_numbers : compare.CompareOp → Option ℤ → Option ℤ → Option Bool
 compared_numbers op (Some x) (Some y) = Some (numbers_compare op x y)
 compared_numbers op (Some x) None = None

@@ -12,7 +12,7 @@ abbrev pub simple_output : Output → Output
 simple_output (formula p) = formula (simp p)
 simple_output (contract p q) = contract (simp p) (simp q)
 
--- the same engine and the same name, over the simplified output
+-- the simplified output with its engine and name
 abbrev pub simple_asked : Asked → Asked
 simple_asked a = record { engine = a.engine; name = a.name; output = simple_output a.output }
 
@@ -20,13 +20,13 @@ simple_asked a = record { engine = a.engine; name = a.name; output = simple_outp
 abbrev pub simple_outputs : List Asked → List Asked
 simple_outputs outs = map simple_asked outs
 
--- a formula of output k: of a contract the left one at side 0, and the right one at side 1
+-- the formula is a formula of output k: at side 0 the only or the left formula, at side 1 the right formula of a contract
 pub record IsFormulaOf (outs : List Asked) (k side : ℕ) (p : Formula) : Type 0 where
   pub out : Asked
   pub there : slice_get outs k ≡ Some out
   pub is : slice_get (formulas_of out.output) side ≡ Some p
 
--- Formula q of a result is in the place of formula p of a specification: in the same output, on the same side.
+-- Formula q of the result is in the place of formula p of the outputs: in the same output, on the same side.
 pub record InPlaceOf (outs result : List Asked) (p q : Formula) : Type 0 where
   pub k : ℕ
   pub side : ℕ

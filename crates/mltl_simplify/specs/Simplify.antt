@@ -1,5 +1,5 @@
--- Simplified formulas: the operands first, then the first rule that fits the operator over them, once.
--- A reader of the contracts needs this file.
+-- Simplified formulas: operands are simplified first, then the first rule that fits the operator is applied once. A reader
+-- of the contracts needs this file.
 
 use Rattle.std.specs.Prelude.{◌+◌, nat_le, Bool, true, false, ◌||◌, if◌then◌else◌, Option, Some, None, []}
 use Rattle.mltl_base.specs.declared.interval.Interval.{Interval}
@@ -41,18 +41,18 @@ has_signal (different a b) = reads_signal a || reads_signal b
 has_signal (greater a b) = reads_signal a || reads_signal b
 has_signal (at_least a b) = reads_signal a || reads_signal b
 
--- a comparison without signals is the Boolean that it has on every row
+-- the simplified atom: a comparison without signals is the Boolean that it has on every row
 abbrev pub simple_atom : Atom → Formula
 simple_atom a = if has_signal a then atom a else of_truth (holds a [])
 
--- not x: z where x is not z, the other Boolean where x is true or false
+-- not x: z if x is not z, the other Boolean if x is true or false
 unfoldable pub simple_not : Formula → Formula
 simple_not truth = falsity
 simple_not falsity = truth
 simple_not (negation z) = z
 simple_not x = negation x
 
--- x and y, where they are true or false: false where one is false, the other where one is true
+-- x and y, with the Booleans that they are, if any: false if one is false, the other if one is true
 abbrev pub both : Option Bool → Option Bool → Formula → Formula → Formula
 both (Some false) w x y = falsity
 both (Some true) w x y = y
@@ -64,7 +64,7 @@ both None None x y = conjunction x y
 abbrev pub simple_and : Formula → Formula → Formula
 simple_and x y = both (as_truth x) (as_truth y) x y
 
--- x or y, where they are true or false: true where one is true, the other where one is false
+-- x or y, with the Booleans that they are, if any: true if one is true, the other if one is false
 abbrev pub either : Option Bool → Option Bool → Formula → Formula → Formula
 either (Some true) w x y = truth
 either (Some false) w x y = y
@@ -76,8 +76,7 @@ either None None x y = disjunction x y
 abbrev pub simple_or : Formula → Formula → Formula
 simple_or x y = either (as_truth x) (as_truth y) x y
 
--- x implies y, where they are true or false: true where x is false or y is true, y where x is true, not x where y is
--- false
+-- x implies y, with the Booleans that they are, if any: true if x is false or y is true, y if x is true, not x if y is false
 abbrev pub implies : Option Bool → Option Bool → Formula → Formula → Formula
 implies (Some false) w x y = truth
 implies (Some true) w x y = y
@@ -89,7 +88,7 @@ implies None None x y = implication x y
 abbrev pub simple_implies : Formula → Formula → Formula
 simple_implies x y = implies (as_truth x) (as_truth y) x y
 
--- x equals y, where they are true or false: the other where one is true, not the other where one is false
+-- x equals y, with the Booleans that they are, if any: the other if one is true, not the other if one is false
 abbrev pub equals : Option Bool → Option Bool → Formula → Formula → Formula
 equals (Some true) w x y = y
 equals (Some false) w x y = simple_not y
@@ -101,47 +100,47 @@ equals None None x y = equivalence x y
 abbrev pub simple_equals : Formula → Formula → Formula
 simple_equals x y = equals (as_truth x) (as_truth y) x y
 
--- the interval of an operator over the same operator: its ends are the sums of both intervals' ends
+-- the interval that joins two nested intervals: its bounds are the sums of their bounds
 abbrev pub summed_interval : Interval → Interval → Interval
 summed_interval i j = record { lo = i.lo + j.lo; hi = i.hi + j.hi }
 
--- the joined interval, where its upper end is within the limit
+-- the first formula if the upper bound of the joined interval is within the limit, else the second
 abbrev pub if_joined : Interval → Interval → Formula → Formula → Formula
 if_joined i j one two = if nat_le (i.hi + j.hi) MAX_BOUND then one else two
 
--- finally of true or false is that Boolean; two of them in a row are merged
+-- finally x: the Boolean if x is true or false; two nested operators are joined
 unfoldable pub simple_finally : Interval → Formula → Formula
 simple_finally i truth = truth
 simple_finally i falsity = falsity
 simple_finally i (finally j z) = if_joined i j (finally (summed_interval i j) z) (finally i (finally j z))
 simple_finally i x = finally i x
 
--- globally of true or false is that Boolean; two of them in a row are merged
+-- globally x: the Boolean if x is true or false; two nested operators are joined
 unfoldable pub simple_globally : Interval → Formula → Formula
 simple_globally i truth = truth
 simple_globally i falsity = falsity
 simple_globally i (globally j z) = if_joined i j (globally (summed_interval i j) z) (globally i (globally j z))
 simple_globally i x = globally i x
 
--- once of false is false; two of them in a row are one. Once of true isn't true at the first times
+-- once x: false if x is false; two nested operators are joined. Once of true isn't true at the first times
 unfoldable pub simple_once : Interval → Formula → Formula
 simple_once i falsity = falsity
 simple_once i (once j z) = if_joined i j (once (summed_interval i j) z) (once i (once j z))
 simple_once i x = once i x
 
--- historically of true is true; two of them in a row are one. Historically of false isn't false at the first times
+-- historically x: true if x is true; two nested operators are joined. Historically of false isn't false at the first times
 unfoldable pub simple_historically : Interval → Formula → Formula
 simple_historically i truth = truth
 simple_historically i (historically j z) =
     if_joined i j (historically (summed_interval i j) z) (historically i (historically j z))
 simple_historically i x = historically i x
 
--- until and release with true or false on the right are that Boolean
+-- until or release: the Boolean if the right formula is true or false
 abbrev pub unless_truth : Option Bool → Formula → Formula
 unless_truth (Some v) whole = of_truth v
 unless_truth None whole = whole
 
--- since with false on the right is false
+-- since: false if the right formula is false
 abbrev pub unless_false : Option Bool → Formula → Formula
 unless_false (Some false) whole = falsity
 unless_false (Some true) whole = whole

@@ -1,5 +1,5 @@
-//! What simplified formulas have in common with their formulas: each law is the contract of a function with an empty
-//! body.
+//! Laws that relate simplified formulas to their formulas: each law is the contract of a function
+//! with an empty body.
 
 ghost use Rattle.std.specs.Prelude.{◌≡◌, ◌+◌, ◌<◌, ◌≤◌, ℕ, All, Bool, true, List, Some, length, slice_get};
 ghost use Rattle.mltl_base.specs.declared.limits.TheConstants.{MAX_BOUND};
@@ -14,8 +14,8 @@ ghost use Rattle.mltl_base.specs.declared.program.Program.{Program as Observer};
 ghost use Rattle.mltl_simplify.specs.Forms.{AreBounded, HasAtom, from_to, signal};
 ghost use Rattle.mltl_simplify.specs.Simplify.{simp};
 
-/// A simplified formula has the meaning of its formula at each time, on any rows. It is decided no later, and what is
-/// settled for it is settled for its formula.
+/// A simplified formula has the meaning of its formula at each time, on any rows. It is decided no
+/// later, and a value that is settled for it is settled for its formula.
 #[tactic(auto, using(crate::proofs::Meaning::simp_sat, crate::proofs::Delays::simp_wpd, crate::proofs::Delays::simp_settled))]
 pub fn simplified_formulas_mean_the_same()
     ensures meaning { (rows : List Row) (p : Formula) (t : ℕ) →
@@ -25,8 +25,8 @@ pub fn simplified_formulas_mean_the_same()
         IsOrdered p → Settled rows (simp p) t v → Settled rows p t v }
 {}
 
-/// The same holds among each class of further rows that a test selects, and among the rows that fit a program: what
-/// is settled there for a simplified formula is settled there for its formula.
+/// Among each class of further rows that a test selects, and among the rows that fit a program, a
+/// value that is settled for a simplified formula is settled for its formula.
 pub fn simplified_formulas_settle_among_each_class()
     ensures tested { (test : List Row → Bool) (rows : List Row) (p : Formula) (t : ℕ) (v : Bool) →
         IsOrdered p → SettledAmong (λ more. test more ≡ true) rows (simp p) t v →
@@ -36,9 +36,9 @@ pub fn simplified_formulas_settle_among_each_class()
         SettledAmong (All (IsFit program)) rows p t v }
 {}
 
-/// Intervals of a simplified formula run upward and stay in bounds where those of its formula do, and it has no operators
-/// of another tense and no other atoms. It reads signals that its formula reads, each by its kind, and over columns it is
-/// what the formula over columns becomes.
+/// A simplified formula has intervals in order or within bounds if its formula has. It has no
+/// operators of another tense and no other atoms, and reads signals of the same kinds. Simplifying
+/// a formula over columns gives the simplified formula over columns.
 pub fn simplified_formulas_keep_their_form()
     ensures ordered { (p : Formula) → IsOrdered p → IsOrdered (simp p) }
     ensures bounded { (p : Formula) → AreBounded p → AreBounded (simp p) }
@@ -51,8 +51,8 @@ pub fn simplified_formulas_keep_their_form()
         formula_over columns (simp p) ≡ simp (formula_over columns p) }
 {}
 
-/// A verdict that is known of a simplified formula is settled for its formula, and comes no later than that formula's
-/// worst delay asks, with that formula's meaning.
+/// A verdict that is known of a simplified formula is settled for its formula. It is known within
+/// that formula's worst-case delay, and is that formula's meaning.
 #[tactic(auto, using(crate::proofs::Delays::simp_told, crate::proofs::Delays::simp_known))]
 pub fn simplified_verdicts_are_settled()
     ensures settled { (rows : List Row) (p : Formula) (t : ℕ) (v : Bool) →
@@ -62,8 +62,8 @@ pub fn simplified_verdicts_are_settled()
         slice_get (verdicts rows (simp p)) t ≡ Some (sat rows p t) }
 {}
 
-/// Windows in a row are joined where the limit allows it, and what was joined isn't looked at again. Truths go away, but
-/// once of true stays, since it is false at the first times.
+/// Nested windows are joined if the limit allows it, and a joined window isn't simplified again.
+/// Booleans are simplified away, but once of true stays, since it is false at the first times.
 pub fn simplified_examples()
     ensures joined { simp (finally (from_to 0 2) (finally (from_to 1 3) (signal 0)))
         ≡ finally (from_to 1 5) (signal 0) }

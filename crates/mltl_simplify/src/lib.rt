@@ -1,6 +1,8 @@
-//! Simplified formulas: the rules, what they keep, and the simplified form of a specification that is unfolded.
+//! Simplified formulas: the rules, their laws, and the simplified form of an unfolded
+//! specification.
 //!
-//! `simp` in `specs/Simplify.antt` is the simplified formula. [`simplify`] makes nodes that unfold to it.
+//! `simp` in `specs/Simplify.antt` defines the simplified formula. [`simplify`] makes nodes that
+//! unfold to it.
 #![tactic(auto)]
 
 mod laws;

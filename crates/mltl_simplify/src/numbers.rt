@@ -1,11 +1,12 @@
-//! The values of integer expressions without signals, and what operators make of them.
+//! The values of integer expressions without signals.
 
 ghost use Rattle.std.specs.Prelude.{◌≡◌, ◌≢◌, pos, int_rem, Some};
 ghost use Rattle.mltl_simplify.specs.Numbers.{CanCompute, IsComputed, IsNegated, compared_numbers as compared_as, numbers_compare, computed_number as meant};
 
 use mltl_base::{ArithOp, CompareOp};
 
-/// The remainder, with the sign of the left operand. That by -1 is 0, also where the quotient has no 64 bits.
+/// Returns the remainder, with the sign of the left operand. The remainder by -1 is 0, also if the
+/// quotient doesn't fit in 64 bits.
 fn remainder(x: i64, y: i64) -> i64
     requires { y ≢ pos 0 }
     ensures { result ≡ int_rem x y }
@@ -13,7 +14,7 @@ fn remainder(x: i64, y: i64) -> i64
     if y == -1 { 0 } else { x % y }
 }
 
-/// What an operator makes of two numbers, where it can be computed in 64 bits.
+/// Returns the result of an operation on two numbers, if it can be computed in 64 bits.
 fn applied(op: ArithOp, x: i64, y: i64) -> Option<i64>
     ensures { CanCompute op x y → result ≡ Some (meant op x y) }
 {
@@ -27,21 +28,21 @@ fn applied(op: ArithOp, x: i64, y: i64) -> Option<i64>
     }
 }
 
-/// The number of a negation, where that of its operand is known.
+/// Returns the negative of a number, if the number is known and 64 bits suffice.
 pub fn negated(x: Option<i64>) -> Option<i64>
     ensures { IsNegated x result }
 {
     x?.checked_neg()
 }
 
-/// The number of two operands under an operator, where both are known.
+/// Returns the result of an operation on two numbers, if both are known and 64 bits suffice.
 pub fn computed(op: ArithOp, x: Option<i64>, y: Option<i64>) -> Option<i64>
     ensures { IsComputed op x y result }
 {
     applied(op, x?, y?)
 }
 
-/// Whether two numbers compare so.
+/// Returns `true` if the comparison of two numbers holds.
 fn compare(op: CompareOp, x: i64, y: i64) -> bool
     ensures { result ≡ numbers_compare op x y }
 {
@@ -55,7 +56,7 @@ fn compare(op: CompareOp, x: i64, y: i64) -> bool
     }
 }
 
-/// Whether two numbers compare so, where both are known.
+/// Returns the result of a comparison of two numbers, if both are known.
 pub fn compared(op: CompareOp, x: Option<i64>, y: Option<i64>) -> Option<bool>
     ensures { result ≡ compared_as op x y }
 {

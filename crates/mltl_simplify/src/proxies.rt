@@ -1,4 +1,4 @@
-//! What each node of a specification becomes: one pass over the nodes, operands first.
+//! The proxies of the nodes of a specification, made in one pass over the nodes, operands first.
 
 ghost use Rattle.std.specs.Prelude.{◌≡◌, ◌<◌, [], length, IfOk};
 ghost use Rattle.c2po_ast.specs.Nodes.{Has, Tree};
@@ -9,15 +9,15 @@ use crate::rules::{between, connective, negation, window};
 use c2po_ast::{NodeList, Plain};
 use std::alloc::{AllocError, Global};
 
-/// What a node became: the index of the node that represents it, and its value, where it is an integer expression
-/// without signals.
+/// The proxy of a node: the index of the node that represents it, and its value, if it is an
+/// integer expression without signals and the value is known.
 #[derive(Clone, Copy)]
 pub struct Proxy {
     pub place: u32,
     pub number: Option<i64>,
 }
 
-/// The number of an operand, where it is known.
+/// Returns the number of an operand, if it is known.
 fn number_at(proxies: &[Proxy], n: u32) -> Option<i64>
     requires { n < length proxies.now }
     ensures { result ≡ known_at proxies.now n }
@@ -33,7 +33,7 @@ pub fn place_at(proxies: &[Proxy], n: u32) -> u32
     proxies[n as usize].place
 }
 
-/// The number of node `i`, given the proxies of the nodes before it.
+/// Returns the number of node `i`, if it is known, from the proxies of the nodes before it.
 fn number_of(proxies: &[Proxy], nodes: &[Plain], i: usize) -> Option<i64>
     requires next { i < length nodes.now }
     requires formed { AreFormed nodes.now }
@@ -49,7 +49,8 @@ fn number_of(proxies: &[Proxy], nodes: &[Plain], i: usize) -> Option<i64>
     }
 }
 
-/// Makes the node that represents node `i`, given the proxies of the nodes before it, and returns its index.
+/// Makes the node that represents node `i`, from the proxies of the nodes before it, and returns
+/// its index.
 fn place_of(
     simple: &mut NodeList,
     proxies: &[Proxy],
@@ -85,12 +86,12 @@ fn place_of(
         Plain::Between(op, i, a, b) => {
             between(simple, op, i, place_at(proxies, a), place_at(proxies, b))
         }
-        // The others have no operands.
+        // Other nodes have no operands.
         _ => simple.push(node),
     }
 }
 
-/// The proxies of all nodes, in order.
+/// Returns the proxies of all nodes, in order.
 pub fn read(alloc: Global, simple: &mut NodeList, nodes: &[Plain]) -> Result<Vec<Proxy>, AllocError>
     requires empty { simple.old ≡ [] }
     requires formed { AreFormed nodes.now }

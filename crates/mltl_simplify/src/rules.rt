@@ -1,4 +1,4 @@
-//! The rules of simplification over nodes: each operator over operands that are simplified.
+//! The rules of simplification over nodes: each operator over simplified operands.
 
 ghost use Rattle.std.specs.Prelude.{◌≡◌, ◌↔◌, ◌+◌, IsTrue, if◌then◌else◌, nat_le, None, Some, IfOk, slice_get};
 ghost use Rattle.mltl_base.specs.Formula.{Formula};
@@ -12,7 +12,7 @@ use mltl_base::limits::MAX_BOUND;
 use mltl_base::{BetweenOp, Interval, LogicOp, WindowOp};
 use std::alloc::AllocError;
 
-/// The truth that formula `n` is, if it is one.
+/// Returns the Boolean that formula `n` is, if it is one.
 fn truth_at(nodes: &NodeList, n: u32) -> Option<bool>
     requires { IsFormulaAt nodes.now n }
     ensures { (p : Formula) → Has nodes.now n (formula p) → result ≡ as_truth p }
@@ -23,7 +23,7 @@ fn truth_at(nodes: &NodeList, n: u32) -> Option<bool>
     }
 }
 
-/// The negation of `a`.
+/// Returns the node of the negation of `a`, simplified.
 pub fn negation(nodes: &mut NodeList, a: u32) -> Result<u32, AllocError>
     requires formed { AreFormed nodes.old }
     requires there { IsFormulaAt nodes.old a }
@@ -37,7 +37,7 @@ pub fn negation(nodes: &mut NodeList, a: u32) -> Result<u32, AllocError>
     }
 }
 
-/// `a && b`.
+/// Returns the node of `a && b`, simplified.
 fn conjunction(nodes: &mut NodeList, a: u32, b: u32) -> Result<u32, AllocError>
     requires formed { AreFormed nodes.old }
     requires left { IsFormulaAt nodes.old a }
@@ -54,7 +54,7 @@ fn conjunction(nodes: &mut NodeList, a: u32, b: u32) -> Result<u32, AllocError>
     }
 }
 
-/// `a || b`.
+/// Returns the node of `a || b`, simplified.
 fn disjunction(nodes: &mut NodeList, a: u32, b: u32) -> Result<u32, AllocError>
     requires formed { AreFormed nodes.old }
     requires left { IsFormulaAt nodes.old a }
@@ -71,7 +71,7 @@ fn disjunction(nodes: &mut NodeList, a: u32, b: u32) -> Result<u32, AllocError>
     }
 }
 
-/// `a -> b`.
+/// Returns the node of `a -> b`, simplified.
 fn implication(nodes: &mut NodeList, a: u32, b: u32) -> Result<u32, AllocError>
     requires formed { AreFormed nodes.old }
     requires left { IsFormulaAt nodes.old a }
@@ -88,7 +88,7 @@ fn implication(nodes: &mut NodeList, a: u32, b: u32) -> Result<u32, AllocError>
     }
 }
 
-/// `a <-> b`.
+/// Returns the node of `a <-> b`, simplified.
 fn equivalence(nodes: &mut NodeList, a: u32, b: u32) -> Result<u32, AllocError>
     requires formed { AreFormed nodes.old }
     requires left { IsFormulaAt nodes.old a }
@@ -105,7 +105,7 @@ fn equivalence(nodes: &mut NodeList, a: u32, b: u32) -> Result<u32, AllocError>
     }
 }
 
-/// An operator that looks at one time.
+/// Returns the node of a connective of two formulas, simplified.
 pub fn connective(nodes: &mut NodeList, op: LogicOp, a: u32, b: u32) -> Result<u32, AllocError>
     requires formed { AreFormed nodes.old }
     requires left { IsFormulaAt nodes.old a }
@@ -121,8 +121,8 @@ pub fn connective(nodes: &mut NodeList, op: LogicOp, a: u32, b: u32) -> Result<u
     }
 }
 
-/// Whether the temporal operator of one formula leaves `true` or `false` as it is: once of true isn't true at the
-/// first times, nor is historically of false false there.
+/// Returns `true` if a temporal operator over a Boolean is that Boolean. Once of true isn't true at
+/// the first times, and historically of false isn't false there.
 fn keeps(op: WindowOp, value: bool) -> bool
     ensures { result ≡ keeps_truth op value }
 {
@@ -133,7 +133,7 @@ fn keeps(op: WindowOp, value: bool) -> bool
     }
 }
 
-/// The interval of an operator over the same operator, where its upper end is within the limit.
+/// Returns the interval that joins two nested intervals, if its upper bound is within the limit.
 fn joined(i: Interval, j: Interval) -> Option<Interval>
     requires outer { IsBounded i }
     requires inner { IsBounded j }
@@ -149,14 +149,15 @@ fn joined(i: Interval, j: Interval) -> Option<Interval>
     }
 }
 
-/// Whether two operators are one.
+/// Returns `true` if two operators are the same.
 fn is_same(outer: WindowOp, inner: WindowOp) -> bool
     ensures { IsTrue result ↔ (inner ≡ outer) }
 {
     inner == outer
 }
 
-/// A temporal operator of one formula, where it can't be left out: two of them in a row are one.
+/// Returns the node of a temporal operator over a formula that it doesn't leave as it is. Two
+/// nested operators of one sort are joined.
 fn stacked(nodes: &mut NodeList, op: WindowOp, i: Interval, a: u32) -> Result<u32, AllocError>
     requires formed { AreFormed nodes.old }
     requires bounded { IsBounded i }
@@ -174,7 +175,7 @@ fn stacked(nodes: &mut NodeList, op: WindowOp, i: Interval, a: u32) -> Result<u3
     }
 }
 
-/// A temporal operator of one formula.
+/// Returns the node of a temporal operator over one formula, simplified.
 pub fn window(nodes: &mut NodeList, op: WindowOp, i: Interval, a: u32) -> Result<u32, AllocError>
     requires formed { AreFormed nodes.old }
     requires bounded { IsBounded i }
@@ -188,7 +189,8 @@ pub fn window(nodes: &mut NodeList, op: WindowOp, i: Interval, a: u32) -> Result
     }
 }
 
-/// Whether the temporal operator equals `true` or `false` on its right: since true isn't true at the first times.
+/// Returns `true` if a temporal operator with a Boolean on its right is that Boolean. Since with
+/// true isn't true at the first times.
 fn gives(op: BetweenOp, value: bool) -> bool
     ensures { result ≡ gives_truth op value }
 {
@@ -198,7 +200,7 @@ fn gives(op: BetweenOp, value: bool) -> bool
     }
 }
 
-/// A temporal operator between formulas.
+/// Returns the node of a temporal operator between formulas, simplified.
 pub fn between(
     nodes: &mut NodeList,
     op: BetweenOp,

@@ -1,4 +1,4 @@
-//! The simplified form of a specification that is unfolded.
+//! The simplified form of an unfolded specification.
 
 ghost use Rattle.std.specs.Prelude.{◌≡◌, ◌+◌, ◌≤◌, ◌<◌, ◌^◌, ℕ, Bool, List as Seq, All, length, map, IfOk};
 ghost use Rattle.mltl_base.specs.Atoms.{Row};
@@ -15,7 +15,7 @@ use c2po_ast::{Expanded, NodeList, PlainOut};
 use mltl_base::List;
 use std::alloc::{AllocError, Global};
 
-/// An output over the indices of the nodes that represent its nodes.
+/// Returns an output over the indices of the nodes that represent its nodes.
 fn out_of(proxies: &[Proxy], out: &PlainOut) -> PlainOut
     requires { ReadsNodes (length proxies.now) out.now }
     ensures { result ≡ out_over proxies.now out.now }
@@ -33,7 +33,7 @@ fn out_of(proxies: &[Proxy], out: &PlainOut) -> PlainOut
     }
 }
 
-/// All outputs over the indices of the nodes that represent their nodes.
+/// Returns all outputs over the indices of the nodes that represent their nodes.
 fn outs_of(
     alloc: Global,
     proxies: &[Proxy],
@@ -49,8 +49,9 @@ fn outs_of(
     Ok(list)
 }
 
-/// The outputs of a specification over the simplified forms of their formulas, under the same names and numbers. The code
-/// goes over each node once, shared ones too; no clause bounds the nodes that it makes.
+/// Returns the outputs of a specification over the simplified forms of their formulas, with the
+/// same names and numbers. Each node is visited once, also if it is shared; no clause bounds the
+/// number of nodes that are made.
 ///
 /// Errors: out of memory.
 pub fn simplify(alloc: Global, spec: &Expanded) -> Result<Expanded, AllocError>
@@ -61,8 +62,8 @@ pub fn simplify(alloc: Global, spec: &Expanded) -> Result<Expanded, AllocError>
         IfOk result (λ simple. IsSound simple signals) }
     ensures ranged { IfOk result (λ simple. All HasRanges (asked simple)) }
 
-    // A formula of the result means what the formula in its place does, no later; what is settled for the one is settled
-    // for the other.
+    // A formula of the result has the meaning of the formula in its place, is decided no later, and
+    // a value that is settled for it is settled for that formula.
     ensures meaning { IfOk result (λ simple. (p q : Formula) (rows : Seq Row) (t : ℕ) →
         InPlaceOf (asked spec.now) (asked simple) p q → IsOrdered p →
         sat rows q t ≡ sat rows p t) }
