@@ -1,4 +1,4 @@
--- What the loop over a trace prints of the rows that it takes.
+-- The output of the loop over a trace for the rows that it takes.
 
 use Rattle.std.specs.Prelude.{◌≡◌, ℕ, ◌+◌, Bool, true, false, List, [], ◌∷◌, ◌++◌, ⊤}
 use Rattle.std.specs.declared.ops.ControlFlow.{ControlFlow}
@@ -33,23 +33,23 @@ abbrev pub StepCause : {T : Type 0} → ControlFlow Watched T → (Place → ℕ
 StepCause (Continue value) before now = NoFault before now
 StepCause (Break answer) before now = WatchCause answer before now
 
--- a monitor that reported all is drained
+-- a monitor that has reported all is drained
 abbrev pub IsDrainedIf : Bool → State → Type 0
 IsDrainedIf true monitor = IsDrained monitor
 IsDrainedIf false monitor = ⊤
 
--- the lines of further rows
+-- the lines of the rows in `more`, after `rows`
 abbrev pub text_after : Program → Style → List Row → List Row → List ℕ
 text_after program style rows more =
     lines_of_reports (output_names program) (reports_after style (outputs program) rows more)
 
--- the monitor has taken these further rows, and all their lines are out
+-- the monitor has taken the rows in `more`, and all their lines are out
 pub record TellsAll (program : Program) (style : Style) (rows more : List Row) (monitor : State)
     (events : List Event) : Type 0 where
   pub sends : Writes Out (text_after program style rows more) events
   pub told : HasTold program monitor (rows ++ more)
 
--- after these rows, of further ones it has those up to the one whose lines aren't all out, where these bytes are
+-- after `rows`, the monitor has taken the rows in `more` up to the row whose lines aren't all out, and these bytes are out
 pub record TakesFront (program : Program) (style : Style) (rows more : List Row) (monitor : State)
     (sent : List ℕ) : Type 0 where
   pub program_kept : program_of monitor ≡ program
@@ -60,13 +60,13 @@ pub record TakesFront (program : Program) (style : Style) (rows more : List Row)
   pub told : IsFront (text_after program style rows before) sent
   pub untold : IsProperFront sent (text_after program style rows (before ++ last ∷ []))
 
--- it has taken a prefix of them, up to the row whose lines aren't all out
+-- the monitor has taken the rows in `more` up to the row whose lines aren't all out
 pub record TellsFront (program : Program) (style : Style) (rows more : List Row) (monitor : State)
     (events : List Event) : Type 0 where
   pub sends : WritesFront Out (text_after program style rows more) events
   pub kept : TakesFront program style rows more monitor sends.sent
 
--- all of the further rows were taken and printed, or a prefix of them
+-- all rows in `more` were taken and their lines printed, or a prefix of them
 abbrev pub TellsRows : Bool → Program → Style → List Row → List Row → State → List Event → Type 0
 TellsRows true program style rows more monitor events = TellsAll program style rows more monitor events
 TellsRows false program style rows more monitor events = TellsFront program style rows more monitor events
@@ -76,7 +76,7 @@ pub record WritesNone (program : Program) (rows : List Row) (monitor : State) (e
   pub none : events ≡ []
   pub told : HasTold program monitor rows
 
--- where all went out, the monitor has taken this many more rows, and has nothing to report
+-- if all lines went out, the monitor has taken this many more rows, and has nothing to report
 abbrev pub HasHeld : Bool → ℕ → State → State → Type 0
 HasHeld true times before after = (taken_by after ≡ taken_by before + times) × IsDrained after
 HasHeld false times before after = ⊤

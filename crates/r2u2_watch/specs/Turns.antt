@@ -1,4 +1,4 @@
--- What one turn of the loop over a trace finds and brings.
+-- The effects of one turn of the loop over a trace.
 
 use Rattle.std.specs.Prelude.{◌≡◌, ℕ, ◌+◌, ◌<◌, ◌≤◌, ◌⊎◌, true, false, Option, Some, None, ⊤}
 use Rattle.std.specs.Prelude.{List, [], ◌∷◌, ◌++◌, length, replicate}
@@ -29,18 +29,18 @@ use Rattle.r2u2_watch.specs.Trace.{is_marked}
 use Rattle.r2u2_watch.specs.Watch.{HasTold}
 use Rattle.r2u2_watch.specs.Telling.{TellsAll, TellsFront, WritesNone}
 
--- the last of the rows and its time, by which there are as many rows as times up to it
+-- the last row and its time are the last of these rows, and there are as many rows as times up to it
 abbrev pub IsLast : Option (ℕ × Row) → List Row → Type 0
 IsLast None rows = rows ≡ []
 IsLast (Some last) rows = (front : List Row) × (rows ≡ front ++ last.1 ∷ []) × (length rows ≡ last.0 + 1)
 
--- a reader that has taken these rows from this many lines is where lines are read so
+-- after these rows from this many lines, the reader reads lines in the way of this feed
 abbrev pub ReaderIsAt : Feed → reader.Reader → ℕ → List Row → Type 0
 ReaderIsAt Plain reader.TheVariants.Plain lines rows = length rows ≤ lines
 ReaderIsAt (Stamped last) (reader.TheVariants.Stamped time) lines rows = (last_time last ≡ time) × IsLast last rows
 ReaderIsAt feed now lines rows = ⊥
 
--- how many times there are up to a last one
+-- the number of times up to the last one
 abbrev pub times_until : Option ℕ → ℕ
 times_until None = 0
 times_until (Some last) = last + 1
@@ -50,7 +50,7 @@ abbrev pub IsCounted : reader.Reader → ℕ → ℕ → Type 0
 IsCounted reader.TheVariants.Plain lines taken = taken ≤ lines
 IsCounted (reader.TheVariants.Stamped last) lines taken = taken ≡ times_until last
 
--- where a reader begins
+-- the feed with which a reader begins
 abbrev pub begins_at : reader.Reader → Feed
 begins_at reader.TheVariants.Plain = Plain
 begins_at (reader.TheVariants.Stamped last) = Stamped None
@@ -60,13 +60,13 @@ pub record IsAtStart (course : Course) : Type 0 where
   pub no_lines : course.lines ≡ 0
   pub no_rows : ReaderIsAt (begins_at course.reader) course.reader 0 []
 
--- Between lines all reports are given, the rows that were taken are counted, and the mission time isn't too long.
+-- Between lines all reports are returned, the rows that were taken are counted, and the mission time isn't too long.
 pub record IsUnderWay (course : Course) (monitor : State) : Type 0 where
   pub drained : IsDrained monitor
   pub counted : IsCounted course.reader course.lines (taken_by monitor)
   pub mission : course.mission ≤ MAX_MISSION
 
--- a fact of a row that was found, by how many copies of the last one come before it
+-- the fact holds of the number of copies of the last row before the row that was found, if one was found
 abbrev pub IfRow : found.Found → (ℕ → Type 0) → Type 0
 IfRow (found.TheVariants.Row copies now) P = P copies
 IfRow result P = ⊤
@@ -77,7 +77,7 @@ pub record CanTake (copies : ℕ) (monitor : State) : Type 0 where
   pub begun : 0 < copies → 0 < taken_by monitor
   pub early : taken_by monitor + copies < MAX_MISSION
 
--- the fault of fields, if they have one; blanks are none in a plain line
+-- the fault of fields, if they have one; blanks are no fault in a plain line
 abbrev pub line_fault : reader.Reader → LineMeaning → Option LineFault
 line_fault now (row values) = None
 line_fault reader.TheVariants.Plain blank = None
@@ -86,7 +86,7 @@ line_fault now too_few = Some Width
 line_fault now (not_whole column) = Some (NotWhole column)
 line_fault now (out_of_range column) = Some (OutOfRange column)
 
--- what fields were found to be: this row after this many copies, no row, or faulty
+-- the fields were found to be this row after this many copies, no row, or faulty
 abbrev pub FindsFields : found.Found → ℕ → reader.Reader → LineMeaning → Row → Type 0
 FindsFields (found.TheVariants.Row times next) copies now what values =
     (times ≡ copies) × (next ≡ now) × (what ≡ row values)
@@ -98,14 +98,14 @@ FindsFields found.TheVariants.Past copies now what values = ⊥
 abbrev pub rows_found : ℕ → State → State → List Row
 rows_found copies before after = replicate copies (last_of before) ++ read_of after ∷ []
 
--- the line brings those rows, and lines are read so after it
+-- the line brings the rows that were found, and the reader reads the next line in the way that the line leaves
 pub record FindsRow (copies : ℕ) (now : reader.Reader) (what : Meaning) (lines : ℕ) (rows : List Row)
     (before after : State) : Type 0 where
   pub next : Feed
   pub brings : what ≡ Brings (rows_found copies before after) next
   pub stands : ReaderIsAt next now (lines + 1) (rows ++ rows_found copies before after)
 
--- what a line was found to be, after these rows from this many lines
+-- the line was found to have this meaning, after these rows from this many lines
 abbrev pub Finds : found.Found → Feed → Meaning → ℕ → List Row → State → State → Type 0
 Finds (found.TheVariants.Row copies now) feed what lines rows before after =
     FindsRow copies now what lines rows before after
@@ -113,21 +113,21 @@ Finds found.TheVariants.Blank feed what lines rows before after = what ≡ Bring
 Finds (found.TheVariants.Bad fault) feed what lines rows before after = what ≡ IsFaulty (why_of fault)
 Finds found.TheVariants.Past feed what lines rows before after = what ≡ IsPast
 
--- the text of the line that a cut gave
+-- the text of the line that was cut
 abbrev pub cut_text : Cutting → List ℕ
 cut_text cut = line_text (cutting.row_of cut)
 
--- what it is
+-- the meaning of the line that was cut
 abbrev pub cut_meaning : Program → Course → Feed → Cutting → Meaning
 cut_meaning program course feed cut = text_meaning program course.mission feed (cut_text cut)
 
--- its rows were taken and printed, and the reader is after them
+-- the rows of the line were taken and printed, and the reader is after them
 pub record TakesRows (more : List Row) (next : Feed) (program : Program) (before now : Course) (rows : List Row)
     (monitor : State) (events : List Event) : Type 0 where
   pub stands : ReaderIsAt next now.reader (before.lines + 1) (rows ++ more)
   pub tells : TellsAll program before.style rows more monitor events
 
--- the effect of a line of this number: its rows, or a prefix of them; else how the loop ends
+-- the effect of a line of this number: its rows were taken, or a prefix of them; else the loop ends by its fault
 abbrev pub TakesAs : ControlFlow watched.Watched ⊤ → Meaning → ℕ → Program → Course → Course → List Row → State
     → List Event → Type 0
 TakesAs (Continue u) (Brings more next) number program before now rows monitor events =
@@ -140,31 +140,31 @@ TakesAs (Break watched.TheVariants.TooLong) IsPast number program before now row
     WritesNone program rows monitor events
 TakesAs answer what number program before now rows monitor events = ⊥
 
--- what the line that a cut gave brought
+-- the effect of the line that was cut
 abbrev pub TakesCut : ControlFlow watched.Watched ⊤ → Program → Course → Course → Feed → List Row → Cutting → State
     → List Event → Type 0
 TakesCut answer program before now feed rows cut monitor events =
     TakesAs answer (cut_meaning program before feed cut) cut.number program before now rows monitor events
 
--- nothing changed but the reader
+-- only the reader changed
 pub record MovesReader (before now : Course) : Type 0 where
   pub mission : now.mission ≡ before.mission
   pub style : now.style ≡ before.style
   pub lines : now.lines ≡ before.lines
 
--- the line that a cut gave counts: it isn't the header, and is within the mission time
+-- the line that was cut counts: it isn't the header, and is within the mission time
 pub record Counts (mission before : ℕ) (cut : Cutting) : Type 0 where
   pub within : before < mission
   pub no_header : is_marked cut.number (cut_text cut) ≡ false
 
--- the line that a cut gave is the header
+-- the line that was cut is the header
 pub record IsHeader (program : Program) (before now : Course) (rows : List Row) (cut : Cutting) (monitor : State)
     (events : List Event) : Type 0 where
   pub same : now ≡ before
   pub marked : is_marked cut.number (cut_text cut) ≡ true
   pub writes : WritesNone program rows monitor events
 
--- it is another line, and was taken
+-- the line that was cut isn't the header, and was taken
 pub record TookLine (program : Program) (before now : Course) (feed : Feed) (rows : List Row) (cut : Cutting)
     (monitor : State) (events : List Event) : Type 0 where
   pub mission : now.mission ≡ before.mission
@@ -173,20 +173,20 @@ pub record TookLine (program : Program) (before now : Course) (feed : Feed) (row
   pub counts : Counts before.mission before.lines cut
   pub takes : TakesCut (Continue tt) program before now feed rows cut monitor events
 
--- it is past the mission time by its number
+-- the line that was cut is past the mission time by its number
 pub record IsPastMission (program : Program) (course : Course) (rows : List Row) (cut : Cutting) (monitor : State)
     (events : List Event) : Type 0 where
   pub at_end : course.lines ≡ course.mission
   pub no_header : is_marked cut.number (cut_text cut) ≡ false
   pub writes : WritesNone program rows monitor events
 
--- it ended the loop so
+-- the line that was cut ended the loop with this answer
 pub record HasStopped (answer : watched.Watched) (program : Program) (before now : Course) (feed : Feed)
     (rows : List Row) (cut : Cutting) (monitor : State) (events : List Event) : Type 0 where
   pub counts : Counts before.mission before.lines cut
   pub takes : TakesCut (Break answer) program before now feed rows cut monitor events
 
--- what the line that a cut gave was, and what it brought; else how the loop ends
+-- the line that was cut is the header, was taken, or ended the loop
 abbrev pub LineSteps : ControlFlow watched.Watched ⊤ → Program → Course → Course → Feed → List Row → Cutting → State
     → List Event → Type 0
 LineSteps (Continue u) program before now feed rows cut monitor events =
@@ -197,7 +197,7 @@ LineSteps (Break watched.TheVariants.TooLong) program before now feed rows cut m
 LineSteps (Break answer) program before now feed rows cut monitor events =
     HasStopped answer program before now feed rows cut monitor events
 
--- a line was cut, and then this
+-- a line was cut, and P holds of the events after it
 pub record CutsThen (start cut : Cutting) (P : List Event → Type 0) (events : List Event) : Type 0 where
   pub first : List Event
   pub second : List Event
@@ -211,14 +211,14 @@ pub record CutsNone (program : Program) (rows : List Row) (start cut : Cutting) 
   pub cuts : CutsLine Trace start cut answer events
   pub told : HasTold program monitor rows
 
--- how the loop ends by a line that is too long
+-- the loop ends by a line that is too long
 abbrev pub EndsLong : ControlFlow watched.Watched ⊤ → ℕ → ℕ → Cutting → Type 0
 EndsLong (Break watched.TheVariants.TooLong) mission before start = before ≡ mission
 EndsLong (Break (watched.TheVariants.BadTrace number why)) mission before start =
     (before < mission) × (number ≡ next_number start) × (why ≡ LongLine)
 EndsLong answer mission before start = ⊥
 
--- what one more line brought, after these rows
+-- the effect of one more line, after these rows
 abbrev pub Turns : ControlFlow watched.Watched ⊤ → Program → Course → Course → Feed → List Row → Cutting → Cutting
     → State → List Event → Type 0
 Turns (Break watched.TheVariants.Done) program before now feed rows start cut monitor events =

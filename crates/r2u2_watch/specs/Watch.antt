@@ -1,4 +1,4 @@
--- What the loop over a trace logs, and how it leaves the monitor.
+-- The log of the loop over a trace, and the state in which it leaves the monitor.
 
 use Rattle.std.specs.Prelude.{◌≡◌, ◌≤◌, ℕ, Bool, true, false, List, [], ◌∷◌, ◌++◌, ⊤}
 use Rattle.mltl_base.specs.declared.limits.TheConstants.{MAX_MISSION}
@@ -24,7 +24,7 @@ OnlyRun (Took Trace piece ∷ events) = OnlyRun events
 OnlyRun (Gave Out piece ∷ events) = OnlyRun events
 OnlyRun (event ∷ events) = ⊥
 
--- the monitor has the rows, and has reported them
+-- the monitor has taken the rows, and has reported them
 pub record HasTold (program : Program) (monitor : State) (rows : List Row) : Type 0 where
   pub program_kept : program_of monitor ≡ program
   pub stands : Stands monitor rows
@@ -34,7 +34,8 @@ pub record HasTold (program : Program) (monitor : State) (rows : List Row) : Typ
 abbrev pub lines_by : Program → Style → List Row → List ℕ
 lines_by program style rows = lines style (output_names program) (outputs program) rows
 
--- it has the rows up to the one whose lines aren't all out: those of the rows before are, and a prefix of that row's
+-- the monitor has the rows up to the row whose lines aren't all out; the lines of the rows before it are out, and a prefix
+-- of its own
 pub record HasFront (program : Program) (style : Style) (monitor : State) (rows : List Row)
     (out : List ℕ) : Type 0 where
   pub program_kept : program_of monitor ≡ program
@@ -45,13 +46,13 @@ pub record HasFront (program : Program) (style : Style) (monitor : State) (rows 
   pub told : IsFront (lines_by program style before) out
   pub untold : IsProperFront out (lines_by program style (before ++ last ∷ []))
 
--- all lines that are due are out, and the monitor has the rows
+-- all lines that are due are out, and the monitor has taken the rows
 pub record IsTold (program : Program) (style : Style) (rows_in : List (List ℕ) → TraceRows) (ended : Bool)
     (bytes out : List ℕ) (monitor : State) : Type 0 where
   pub told : out ≡ due program style rows_in ended bytes
   pub kept : HasTold program monitor (rows_in (lines_of ended bytes)).rows
 
--- how the result follows from the bytes that were read, and what is out, by the rows of lines
+-- the result and the output follow from the bytes that were read, by the rows of lines
 abbrev pub Outcome : watched.Watched → Program → Style → (List (List ℕ) → TraceRows) → Bool → List ℕ → List ℕ → State
     → Type 0
 Outcome watched.TheVariants.Done program style rows_in ended bytes out monitor =
@@ -69,23 +70,23 @@ Outcome watched.TheVariants.WriteFault program style rows_in ended bytes out mon
     IsProperFront out (due program style rows_in ended bytes)
     × HasFront program style monitor (rows_in (lines_of ended bytes)).rows out
 
--- a trace can be watched: the monitor has taken no rows and has nothing to report, no more than one line was cut, and
--- the mission time is within its limit
+-- a trace can be watched: the monitor has taken no rows and has nothing to report, no more than one line was cut, and the
+-- mission time is within its limit
 pub record CanWatch (monitor : State) (cut : Cutting) (mission : ℕ) : Type 0 where
   pub no_rows : Stands monitor []
   pub drained : IsDrained monitor
   pub within : mission ≤ MAX_MISSION
   pub numbered : cut.number ≤ 1
 
--- the number of the first line that a cut gives next
+-- the number of the first line that a cut returns next
 abbrev pub first_of : Cutting → ℕ
 first_of cut = next_number cut
 
--- once the end was met nothing more is read
+-- after the end was met, nothing more is read
 abbrev pub ReadsNoMore : Cutting → Cutting → List Event → Type 0
 ReadsNoMore start cut events = start.ended ≡ true → (cut.ended ≡ true) × (taken Trace events ≡ [])
 
--- the log of a run that began with this cut and ended with that one
+-- the log of a run that began with the cut `start` and ended with `cut`
 pub record IsWatch (program : Program) (style : Style) (rows_in : List (List ℕ) → TraceRows) (start cut : Cutting)
     (monitor : State) (answer : watched.Watched) (events : List Event) : Type 0 where
   pub prompt : Prompt (due program style rows_in false) start.pending events
@@ -107,7 +108,7 @@ WatchCause watched.TheVariants.WriteFault before now = RoseAt before now Out
 abbrev pub NoneRose : (Place → ℕ) → (Place → ℕ) → Type 0
 NoneRose before now = (place : Place) → ¬ Rose (before place) (now place)
 
--- the result is success, where the rows of all lines that were taken end clean
+-- if the rows of all lines that were taken end cleanly, the result is success
 abbrev pub EndsDone : watched.Watched → (List (List ℕ) → TraceRows) → Cutting → Cutting → List Event → Type 0
 EndsDone answer rows_in start cut events =
     (rows_in (lines_of cut.ended (start.pending ++ taken Trace events))).stop ≡ Clean

@@ -1,4 +1,5 @@
-//! What the definitions of a loop over a trace say together: each law is the contract of a function with an empty body.
+//! Laws that follow from the definitions of a loop over a trace. Each law is the contract of a
+//! function with an empty body.
 
 ghost use Rattle.std.specs.Prelude.{◌≡◌, ℕ, List, ◌++◌};
 ghost use Rattle.mltl_base.specs.declared.program.Program.{Program as Observer};
@@ -13,7 +14,8 @@ ghost use Rattle.r2u2_watch.specs.declared.status.Watched.TheVariants.{Done};
 ghost use Rattle.r2u2_watch.specs.Trace.{Clean, TraceRows};
 ghost use Rattle.r2u2_watch.specs.Watch.{IsWatch, NoneRose, WatchCause};
 
-/// Where no fault was counted, and the trace has no faulty line and stays within the mission time, all is done.
+/// If no fault was counted, and the trace has no faulty line and stays within the mission time, the
+/// loop ends with success.
 pub fn watch_takes_none()
     ensures { (answer : Watched) (program : Observer) (style : Style)
         (rows_in : List (List ℕ) → TraceRows) (start cut : Cutting) (monitor : State)

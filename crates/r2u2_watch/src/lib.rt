@@ -1,4 +1,5 @@
-//! The loop over a trace: its lines are taken one by one, and what each brings is out before the next is read.
+//! The loop over a trace: it takes lines one by one, and writes the reports of each before it reads
+//! the next.
 #![tactic(auto)]
 
 pub mod laws;

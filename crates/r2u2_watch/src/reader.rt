@@ -1,5 +1,6 @@
-//! What a line of a trace is, read as a plain row or as a stamped one. The calls are inlined, so that what was found stays
-//! in registers: through memory it costs a plain row a twentieth of its instructions.
+//! Meanings of the lines of a trace, which hold plain rows or stamped rows. The calls are inlined,
+//! so that their results stay in registers: through memory, a plain row takes a twentieth more
+//! instructions.
 
 ghost use Rattle.std.specs.Prelude.{◌≡◌, ◌+◌, ◌<◌, ◌≤◌, ◌^◌, ℕ, List, Option};
 ghost use Rattle.mltl_base.specs.declared.limits.TheConstants.{MAX_MISSION};
@@ -15,30 +16,32 @@ use r2u2_monitor::Monitor;
 use sparse_feed::{Stamp, gap, stamp_of};
 use trace_feed::RowAnswer;
 
-/// How the lines of a trace hold rows.
+/// The way in which the lines of a trace hold rows.
 #[derive(Clone, Copy)]
 pub(crate) enum Reader {
     /// Each line is a row.
     Plain,
-    /// Each line is a time and the row that holds from then on. This is the time of the last row, if there was one.
+    /// Each line is a time and the row that holds from then on. The field is the time of the last
+    /// row, if there was one.
     Stamped(Option<u64>),
 }
 
-/// What a line is.
+/// The meaning of a line.
 #[derive(Clone, Copy)]
 pub(crate) enum Found {
-    /// A row, which the monitor has read. So many copies of the last one come before it, and the next line is read so.
+    /// The line has a row, which the monitor has read. This many copies of the last row come before
+    /// it, and the reader is the reader of the next line.
     Row(u64, Reader),
-    /// No row.
+    /// The line has no row.
     Blank,
-    /// No row, for this fault.
+    /// The line has this fault.
     Bad(LineFault),
-    /// A row past the mission time.
+    /// The row is past the mission time.
     Past,
 }
 
-/// Reads the fields of a row, before which come `copies` copies of the last one. Blanks aren't a row in a plain line,
-/// and too few fields after a stamp.
+/// Reads the fields of a row, which `copies` copies of the last row come before. Blanks aren't a
+/// row in a plain line, and are too few fields after a stamp.
 #[inline(always)]
 pub(crate) fn read_fields(
     monitor: &mut Monitor,
@@ -65,7 +68,7 @@ pub(crate) fn read_fields(
     }
 }
 
-/// Reads a line that begins with a time, where the last row has this time.
+/// Reads a line that begins with a time, after a last row of this time.
 #[inline(always)]
 pub(crate) fn read_stamped(
     monitor: &mut Monitor,

@@ -1,4 +1,4 @@
-//! Rows that are taken, and the lines that they bring.
+//! Rows that are taken, and the report lines of each.
 
 ghost use Rattle.std.specs.Prelude.{◌≡◌, ◌+◌, ◌<◌, ◌≤◌, ◌^◌, List, length, replicate};
 ghost use Rattle.mltl_base.specs.declared.limits.TheConstants.{MAX_MISSION, TIME_END};
@@ -17,7 +17,7 @@ use r2u2_monitor::{Checked, Monitor};
 use std::sync::ledger::Ledger;
 use tool_io::{Host, Place, Put, put_all};
 
-/// Writes the line of a report by one write, and returns whether that wrote all of it.
+/// Writes the line of a report by one write. Returns true if all of it was written.
 #[inline(always)]
 fn write_report<H: Host>(
     host: &mut H,
@@ -38,7 +38,7 @@ fn write_report<H: Host>(
     true
 }
 
-/// Writes the lines of all open reports. Returns whether every line was written.
+/// Writes the lines of all open reports. Returns true if every line was written.
 fn write_reports<H: Host>(monitor: &mut Monitor, host: &mut H, style: Style) -> bool
     ensures cause { TellCause result (H.faults host.old) (H.faults host.new) }
     ensures log { (rows : List Row) → Stands monitor.old rows
@@ -61,7 +61,8 @@ fn write_reports<H: Host>(monitor: &mut Monitor, host: &mut H, style: Style) -> 
     true
 }
 
-/// Takes the last row `copies` more times, and writes the lines of each. Returns whether every line was written.
+/// Takes the last row `copies` more times, and writes the lines of each. Returns true if every line
+/// was written.
 fn repeat_row<H: Host, L: Ledger>(
     monitor: &mut Monitor,
     host: &mut H,
@@ -90,8 +91,8 @@ fn repeat_row<H: Host, L: Ledger>(
     true
 }
 
-/// Takes the row that was read, after `copies` copies of the last one, and writes the lines of each. Returns whether
-/// every line was written.
+/// Takes the row that was read, after `copies` copies of the last row, and writes the lines of
+/// each. Returns true if every line was written.
 pub(crate) fn take_rows<H: Host, L: Ledger>(
     monitor: &mut Monitor,
     host: &mut H,

@@ -1,26 +1,26 @@
-//! How a loop over a trace ends.
+//! Endings of a loop over a trace.
 
 ghost use Rattle.std.specs.Prelude.{◌≡◌};
 ghost use Rattle.r2u2_watch.specs.Endings.{watched_of, why_of};
 
 use trace_feed::TraceWhy;
 
-/// How the loop over a trace ended.
+/// The ending of the loop over a trace.
 #[derive(Drop)]
 pub enum Watched {
-    /// The trace was read to its end and all lines are out.
+    /// The trace was read to its end, and all lines are out.
     Done,
-    /// The line of the trace that has a fault, by its number from 1.
+    /// The line of the trace with this number, from 1, has this fault.
     BadTrace(u64, TraceWhy),
     /// The trace goes on past the mission time.
     TooLong,
-    /// The trace couldn't be read on.
+    /// A read of the trace failed.
     ReadFault,
-    /// A line couldn't be written.
+    /// A write of a line failed.
     WriteFault,
 }
 
-/// What is wrong with a line that isn't the header: a `TraceWhy` without a name, so that it stays in registers.
+/// A fault of a line after the header: a `TraceWhy` without a name, so that it stays in registers.
 #[derive(Clone, Copy)]
 pub(crate) enum LineFault {
     Width,
@@ -32,7 +32,7 @@ pub(crate) enum LineFault {
 }
 
 impl LineFault {
-    /// The fault as one of the trace.
+    /// Returns the fault as a fault of the trace.
     fn why(self) -> TraceWhy
         ensures { result ≡ why_of self }
     {
@@ -47,7 +47,7 @@ impl LineFault {
     }
 }
 
-/// How the loop over a trace ended, within the loop.
+/// The ending of the loop over a trace, within the loop.
 #[derive(Clone, Copy)]
 pub(crate) enum Ending {
     Done,
@@ -58,7 +58,7 @@ pub(crate) enum Ending {
 }
 
 impl Ending {
-    /// The ending as one of the whole call.
+    /// Returns the ending as the ending of the whole call.
     pub(crate) fn watched(self) -> Watched
         ensures { result ≡ watched_of self }
     {

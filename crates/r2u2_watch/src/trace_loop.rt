@@ -23,7 +23,7 @@ use std::ops::ControlFlow::{self, Break, Continue};
 use std::sync::ledger::{Blank, Ledger};
 use tool_io::{Host, Line, LineCut, Place};
 
-/// Whether the line of the last Row is the first of the trace and begins with `#`.
+/// Returns true if the line of the last `Row` is the first of the trace and begins with `#`.
 fn is_header(cut: &LineCut) -> bool
     requires row { IsSome cut.now.row }
     ensures { result ≡ is_marked cut.now.number (cut_text cut.now) }
@@ -31,20 +31,20 @@ fn is_header(cut: &LineCut) -> bool
     cut.number() == 1 && matches!(cut.line(), [b'#', ..])
 }
 
-/// How a trace is watched, and how far it was taken.
+/// The course of a loop over a trace: its settings, and how far it has come.
 #[derive(Drop)]
 struct Course {
-    /// How many lines after the header are taken at most, and which times.
+    /// The most lines after the header that are taken, and the most times.
     mission: u64,
     style: Style,
-    /// How many lines after the header were taken.
+    /// The number of lines after the header that were taken.
     lines: u64,
-    /// How the next line holds rows.
+    /// The reader of the next line.
     reader: Reader,
 }
 
 impl Course {
-    /// The course of a trace of which no line was taken.
+    /// Makes the course of a trace before its first line.
     fn new(mission: u64, style: Style, reader: Reader) -> Course
         ensures mission { result.mission ≡ mission }
         ensures style { result.style ≡ style }
@@ -115,7 +115,8 @@ impl Course {
         }
     }
 
-    /// Cuts the next line of the trace, and takes its row unless it is the header or past the mission time.
+    /// Cuts the next line of the trace, and takes its row, unless the line is the header or past
+    /// the mission time.
     #[inline(always)]
     fn next_line<H: Host, L: Ledger>(
         &mut self,
@@ -181,13 +182,13 @@ fn turns<H: Host, L: Ledger>(
     }
 }
 
-/// Watches a trace: reads its lines one by one from the place `Trace`, and writes the verdict lines of each to the
-/// place `Out` before it reads on. A header is passed over, and a line past `mission` lines after it ends the loop.
-/// It does not allocate.
+/// Watches a trace: reads its lines one by one from the place `Trace`, and writes the verdict lines
+/// of each to the place `Out` before it reads on. A header is passed over, and a line past
+/// `mission` lines after it ends the loop. It doesn't allocate.
 ///
-/// Lines are counted from the first that the cut returns next, and numbered as the cut numbers them; the header is a
-/// line with the number 1 that begins with `#`. Where the loop ends by a fault, the lines of the rows before are out,
-/// or, after a failed write, a prefix of them.
+/// Lines are counted from the first line that the cut returns next, and numbered as the cut numbers
+/// them; the header is a line with the number 1 that begins with `#`. If the loop ends by a fault,
+/// the lines of the rows before are out, or, after a failed write, a prefix of them.
 pub fn watch<H: Host>(
     monitor: &mut Monitor,
     cut: &mut LineCut,
@@ -212,8 +213,9 @@ pub fn watch<H: Host>(
     turns::<H, Brand>(monitor, cut, host, course, Blank::new(1))
 }
 
-/// Watches a trace of stamped rows: as `watch`, but each row holds from the time of its stamp until that of the next.
-/// The mission time counts times too, and a row of that time or a later one ends the loop before its gap is filled.
+/// Watches a trace of stamped rows as `watch` does, but each row holds from the time of its stamp
+/// until the time of the next stamp. The mission time counts times too, and a row of that time or a
+/// later one ends the loop before its gap is filled.
 pub fn watch_timed<H: Host>(
     monitor: &mut Monitor,
     cut: &mut LineCut,
