@@ -67,7 +67,8 @@ pub record IsFormulaAt (nodes : List Plain) (n : ℕ) : Type 0 where
   pub the : plain.Formula
   pub has : Has nodes n (formula the)
 
--- the new nodes begin with the old ones, node n of them is the formula, and they are sound if the old ones are
+-- each old node unfolds to the same tree among the new nodes, node n of them is the formula, and they are sound if the old
+-- ones are
 pub record AddsNodes (old new : List Plain) (n : ℕ) (p : plain.Formula) : Type 0 where
   pub has : Has new n (formula p)
   pub grows : Grows old new
@@ -84,8 +85,8 @@ abbrev pub IsPlaced : List Plain → ℕ → Tree → Type 0
 IsPlaced nodes n (number a) = Has nodes n (number a)
 IsPlaced nodes n (formula p) = IsSimplified nodes n p
 
--- the new nodes begin with the old ones, node n of them represents a tree of `nodes`, and they are sound if `nodes` and the
--- old ones are
+-- each old node unfolds to the same tree among the new nodes, node n of them represents a tree of `nodes`, and they are
+-- sound if `nodes` and the old ones are
 pub record Places (nodes old new : List Plain) (n : ℕ) (tree : Tree) : Type 0 where
   pub placed : IsPlaced new n tree
   pub grows : Grows old new
@@ -96,7 +97,7 @@ abbrev pub IsNumbered : Option ℤ → Tree → Type 0
 IsNumbered known (number a) = term_fault a ≡ None → known ≡ number_of a
 IsNumbered known (formula p) = ⊤
 
--- each proxy has the number of its node
+-- each proxy has the number of its node, if the node is an integer without a fault
 pub record ProxiesAreNumbered (nodes : List Plain) (proxies : List Proxy) : Type 0 where
   pub known : (n : ℕ) (proxy : Proxy) (tree : Tree) → slice_get proxies n ≡ Some proxy → Has nodes n tree
       → IsNumbered proxy.number tree

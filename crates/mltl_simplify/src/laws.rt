@@ -36,9 +36,9 @@ pub fn simplified_formulas_settle_among_each_class()
         SettledAmong (All (IsFit program)) rows p t v }
 {}
 
-/// A simplified formula has intervals in order or within bounds if its formula has. It has no
-/// operators of another tense and no other atoms, and reads signals of the same kinds. Simplifying
-/// a formula over columns gives the simplified formula over columns.
+/// The intervals of a simplified formula are in order if its formula's are, and within bounds if
+/// its formula's are. It has no operators of another tense and no other atoms, and reads signals of
+/// the same kinds. Simplifying a formula over columns gives the simplified formula over columns.
 pub fn simplified_formulas_keep_their_form()
     ensures ordered { (p : Formula) → IsOrdered p → IsOrdered (simp p) }
     ensures bounded { (p : Formula) → AreBounded p → AreBounded (simp p) }

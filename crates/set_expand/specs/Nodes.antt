@@ -53,8 +53,8 @@ abbrev pub HeadKept : List Plain → Table Declared → Head → Type 0
 HeadKept nodes names (head.Kept made scope e) = IsMade nodes made (value_of (shape e.now) (env_in names scope))
 HeadKept nodes names _ = ⊤
 
--- The new nodes begin with the old ones, have the nodes that entries keep if the old ones have them, and are sound over the
--- signals of the names if the old ones are.
+-- Each old node unfolds to the same tree among the new nodes, which have the nodes that entries keep if the old ones have
+-- them, and are sound over the signals of the names if the old ones are.
 pub record IsMore (names : Table Declared) (old new : List Plain) : Type 0 where
   pub grows : Grows old new
   pub kept : HaveNodes old names → HaveNodes new names
