@@ -1,4 +1,4 @@
--- The limits that a specification keeps, and the first that it exceeds.
+-- The limits of a specification, and the first limit that it exceeds.
 
 use Rattle.std.specs.Prelude.{ℕ, ◌<◌, ◌≤◌, List, All, Any, ⊤}
 use Rattle.mltl_base.specs.declared.limits.TheConstants.{MAX_DELAY, MAX_SLOTS}
@@ -15,37 +15,37 @@ use Rattle.c2po_compile.specs.declared.build_fault.BuildFault.TheVariants.{TooMa
 abbrev pub output_delays : List Asked → List ℕ
 output_delays outs = worst_delays (ft_list outs)
 
--- all slots and boxes that outputs need
+-- the number of slots and boxes that the outputs need
 abbrev pub slots_needed : List Asked → ℕ
 slots_needed outs = slot_count (ft_list outs) (pt_list outs) (out_list outs)
 
--- no instruction is later than the limit
+-- the worst-case delay of each instruction is within the limit
 abbrev pub AreInTime : List Asked → Type 0
 AreInTime outs = All (λ rows. rows ≤ MAX_DELAY) (output_delays outs)
 
--- an instruction is later than the limit
+-- the worst-case delay of some instruction is above the limit
 abbrev pub IsLate : List Asked → Type 0
 IsLate outs = Any (λ rows. MAX_DELAY < rows) (output_delays outs)
 
--- all limits are kept
+-- the outputs are within all limits
 pub record IsWithinLimits (outs : List Asked) : Type 0 where
   pub few : AreFew outs
   pub in_time : AreInTime outs
   pub fits : slots_needed outs ≤ MAX_SLOTS
 
--- the limit that no graph keeps
+-- the fault of a build for the fault of a graph
 abbrev pub graph_limit : GraphFault → BuildFault
 graph_limit core.TooManyNodes = TooManyNodes
 graph_limit core.Memory = Memory
 
--- the limit that a refusal names is exceeded, and those before it are kept: nodes, then delays, then slots
+-- the outputs exceed the limit that the fault names, and no limit before it: nodes, then delays, then slots
 abbrev pub IsReason : List Asked → BuildFault → Type 0
 IsReason outs TooManyNodes = AreMany outs
 IsReason outs TooLate = AreFew outs × IsLate outs
 IsReason outs TooManySlots = AreFew outs × AreInTime outs × (MAX_SLOTS < slots_needed outs)
 IsReason outs Memory = ⊤
 
--- why a graph has no sizes: an instruction is later than the limit, or none is and the slots exceed theirs
+-- the graph exceeds the limit that the fault names: a delay is above its limit, or no delay is and the slots exceed theirs
 abbrev pub IsSizeReason : Graph → BuildFault → Type 0
 IsSizeReason graph TooManyNodes = ⊥
 IsSizeReason graph TooLate = Any (λ rows. MAX_DELAY < rows) (worst_delays graph.ft)

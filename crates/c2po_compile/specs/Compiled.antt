@@ -1,4 +1,4 @@
--- The program of a text and a header line, or why there is none.
+-- The program of a text and a header line, or their refusal.
 
 use Rattle.std.specs.Prelude.{◌≡◌, ℕ, List, map, length, Option, Some, None, Result, Ok, Err}
 use Rattle.mltl_base.specs.declared.program.Columns.{Columns}
@@ -20,16 +20,16 @@ use Rattle.c2po_compile.specs.Image.{over_columns, image}
 abbrev pub signals_in : List ℕ → List Signal
 signals_in text = signals_of (items_in text)
 
--- the outputs of a text by the numbers of signals
+-- the outputs of a text over signals by their numbers
 abbrev pub outputs_in : List ℕ → List Asked
 outputs_in text = outputs_of (items_in text)
 
--- the columns of signals: those that a header line names; without one, each in the column of its number
+-- the columns of signals that a header line names; without a header line each signal has the column of its number
 abbrev pub columns_by : List Signal → Option (List ℕ) → Result Columns HeaderFault
 columns_by signals None = Ok (columns_in_order (length signals))
 columns_by signals (Some line) = header_meaning (map (λ s. s.name) signals) line
 
--- the refusal of what items say over columns, by the first limit that it exceeds
+-- the refusal of items over columns, for the first limit that their outputs exceed
 abbrev pub limit_over : Columns → List ItemShape → Option CompileFault
 limit_over columns items = limit_refusal (over_columns columns (outputs_of items))
 
@@ -38,19 +38,19 @@ abbrev pub compile_within_limits : List Signal → List Asked → Columns → Re
 compile_within_limits signals outs columns =
     unless_refused (limit_refusal (over_columns columns outs)) (Ok (image columns signals outs))
 
--- the same over the columns of a header, where it has no fault
+-- the image over the columns of a header, unless the header has a fault or a limit is exceeded
 abbrev pub compile_under_header : List Signal → List Asked → Result Columns HeaderFault → Result Program CompileFault
 compile_under_header signals outs (Ok columns) = compile_within_limits signals outs columns
 compile_under_header signals outs (Err fault) = Err (header_refusal fault)
 
--- the program of a text over the columns that a header line names, or over those of the order of declaration; else the
--- first refusal: the text's, then the header's, then that of a limit
+-- the program of a text over the columns of its signals, or the first refusal: of the text, then of the header, then for a
+-- limit
 unfoldable pub compile_text : List ℕ → Option (List ℕ) → Result Program CompileFault
 compile_text text header =
     unless_refused (first_refusal text) (compile_under_header (signals_in text) (outputs_in text)
     (columns_by (signals_in text) header))
 
--- a program is the image of a text over the columns that a header line, or the order of declaration, gives its signals
+-- the program is the image of the text over the columns of its signals under this header line, if any
 pub record IsImageUnder (text : List ℕ) (header : Option (List ℕ)) (program : Program) : Type 0 where
   pub columns : Columns
   pub found : columns_by (signals_in text) header ≡ Ok columns

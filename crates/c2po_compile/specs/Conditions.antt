@@ -1,5 +1,5 @@
--- What checking and unfolding ensure: outputs without faults over signals of their kinds, and signals with distinct
--- names and columns.
+-- The conditions that checking and unfolding ensure: outputs without faults over signals of their kinds, and signals with
+-- distinct names and columns.
 
 use Rattle.std.specs.Prelude.{◌≡◌, ◌<◌, ◌≤◌, List, length, All}
 use Rattle.mltl_base.specs.declared.limits.TheConstants.{MAX_SIGNALS}
@@ -11,8 +11,8 @@ use Rattle.mltl_base.specs.declared.signal.Signal.{Signal}
 use Rattle.obs_verify.specs.Bound.{AreDifferent}
 use Rattle.mltl_base.specs.Kinds.{HaveOwnNames, ReadsSignals, kinds_of}
 
--- a specification that is unfolded can be built over columns: it is sound and without faults, and its signals have
--- distinct names and columns
+-- the unfolded specification can be built over the columns: it is sound and without faults, and its signals have distinct
+-- names and columns
 pub record IsBuildable (spec : Expanded) (signals : List Signal) (columns : Columns) : Type 0 where
   pub sound : IsSound spec (length signals)
   pub faultless : All HasRanges (asked spec)

@@ -1,4 +1,4 @@
--- Why a specification isn't compiled, in words.
+-- Faults of compilation in words.
 
 use Rattle.std.specs.Prelude.{ℕ, ◌==◌, if◌then◌else◌, List, [], ◌++◌, codes, decimal}
 use Rattle.trace_columns.specs.declared.header_fault.HeaderFault as header
@@ -7,7 +7,7 @@ use Rattle.c2po_compile.specs.declared.fault.CompileFault as fault
 use Rattle.c2po_compile.specs.declared.fault.HeaderWhy as why
 use Rattle.c2po_compile.specs.declared.fault.Refusal as refusal
 
--- why a specification is refused
+-- the text of a refusal
 abbrev pub refusal_text : refusal.Refusal → List ℕ
 refusal_text refusal.TheVariants.Letter = codes "bad character"
 refusal_text refusal.TheVariants.LongWord = codes "word too long"
@@ -29,17 +29,17 @@ refusal_text refusal.TheVariants.TooManyNodes = codes "too many nodes"
 refusal_text refusal.TheVariants.TooLate = codes "delay too large"
 refusal_text refusal.TheVariants.TooManySlots = codes "too many slots"
 
--- the line of a specification, where there is one
+-- the text of a line of a specification; line 0 has no text
 abbrev pub spec_line_text : ℕ → List ℕ
 spec_line_text n = if n == 0 then [] else codes "line " ++ decimal n ++ codes ": "
 
--- the fault of a header that is the reason
+-- the fault of the header reader for a fault of a header line
 abbrev pub header_fault_of : why.HeaderWhy → header.HeaderFault
 header_fault_of why.TheVariants.NoHeader = header.TheVariants.NoHeader
 header_fault_of (why.TheVariants.Missing name) = header.TheVariants.Missing name
 header_fault_of (why.TheVariants.Twice name) = header.TheVariants.Twice name
 
--- why a specification isn't compiled
+-- the text of a fault of compilation
 abbrev pub compile_fault_text : fault.CompileFault → List ℕ
 compile_fault_text (fault.TheVariants.Refused line why) = spec_line_text line ++ refusal_text why
 compile_fault_text (fault.TheVariants.BadHeader why) = codes "header: " ++ header_fault_text (header_fault_of why)

@@ -1,4 +1,4 @@
--- What a text says, and its first refusal: as values, and by the rules of the grammar.
+-- The items of a text and its first refusal: as values, and by the rules of the grammar.
 
 use Rattle.std.specs.Prelude.{◌≡◌, ℕ, List, [], Option, Some, None, option_map, Result, Ok, Err}
 use Rattle.std.specs.Option.{option_or}
@@ -15,36 +15,36 @@ use Rattle.c2po_types.specs.FirstFault.{first_fault}
 use Rattle.c2po_compile.specs.declared.fault.CompileFault.{CompileFault}
 use Rattle.c2po_compile.specs.Refusals.{token_refusal, tree_refusal, check_refusal}
 
--- the tokens of a text, where it has no fault of tokens
+-- the tokens of a text; none if a token has a fault
 abbrev pub tokens_in : List ℕ → List Token
 tokens_in text = result_unwrap_or (tokens_of text) []
 
--- the items that a text says, where each has a tree
+-- the items of a text; none if an item has no tree
 abbrev pub items_in : List ℕ → List ItemShape
 items_in text = result_unwrap_or (spec_of (tokens_in text)) []
 
--- the refusal for a fault, where one was found
+-- the refusal for a fault, if the result is one
 abbrev pub refusal_in : {A E : Type 0} → (E → CompileFault) → Result A E → Option CompileFault
 refusal_in refusal (Ok found) = None
 refusal_in refusal (Err fault) = Some (refusal fault)
 
--- the first refusal of a text: that of its tokens comes first, then that of the trees of its items, then that of the
--- items' names, kinds, weights, ranges and tenses
+-- the first refusal of a text: for its tokens, else for the trees of its items, else for the items' names, kinds, weights,
+-- ranges and tenses
 abbrev pub first_refusal : List ℕ → Option CompileFault
 first_refusal text =
     option_or (refusal_in token_refusal (tokens_of text))
     (option_or (refusal_in tree_refusal (spec_of (tokens_in text)))
     (option_map check_refusal (first_fault (items_in text))))
 
--- by the rules of the grammar a text says these items, and none of them has a fault
+-- by the rules of the grammar the text says these items, and they have no fault
 pub record Says (text : List ℕ) (items : List ItemShape) : Type 0 where
   pub tokens : List Token
   pub are_tokens : tokens_of text ≡ Ok tokens
   pub grammar : IsSpecification tokens items
   pub faultless : first_fault items ≡ None
 
--- by these rules a text is refused: for a fault of its tokens, for the first item that the grammar gives no tree, or for
--- the first fault of its items
+-- the text is refused by the rules: for a fault of its tokens, for the first item without a tree, or for the first fault of
+-- its items
 pub data IsRefusedBy : List ℕ → CompileFault → Type 0 where
   by_token : (text : List ℕ) (fault : LexFault) → tokens_of text ≡ Err fault → IsRefusedBy text (token_refusal fault)
   by_tree : (text : List ℕ) (tokens : List Token) (fault : ParseFault) →

@@ -12,22 +12,22 @@ use Rattle.mltl_base.specs.declared.signal.Signal.{Signal}
 use Rattle.obs_verify.specs.Bound.{AreDifferent}
 use Rattle.c2po_compile.specs.Images.{stored_signals}
 
--- columns for this many signals: one for each, below the width and no two the same, in rows that aren't too wide
+-- the columns serve this many signals: each has one column, below the width and distinct, and the width is within the limit
 pub record AreColumnsFor (signals : ℕ) (columns : Columns) : Type 0 where
   pub one_each : length columns.of_signal ≡ signals
   pub below : All (λ column. column < columns.width) columns.of_signal
   pub different : AreDifferent columns.of_signal
   pub narrow : columns.width ≤ MAX_SIGNALS
 
--- the outputs over columns in place of signals' numbers
+-- the outputs over the columns of the signals
 abbrev pub over_columns : Columns → List Asked → List Asked
 over_columns columns outs = map (asked_over columns.of_signal) outs
 
--- what they say there, as plain formulas
+-- the plain formulas of the outputs over columns
 abbrev pub plain_outputs : Columns → List Asked → List Output
 plain_outputs columns outs = map (λ asked. asked.output) (over_columns columns outs)
 
--- the program with the instructions, the outputs and the sizes of outputs, which stores these signals
+-- the program with the instructions and the sizes that the outputs need, and with these signals
 abbrev pub assembled_program : Columns → List Signal → List Asked → Program
 assembled_program columns signals outs = record {
   version = 2;

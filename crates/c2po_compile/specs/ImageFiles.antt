@@ -15,7 +15,7 @@ use Rattle.c2po_compile.specs.Compiled.{outputs_in, signals_in}
 abbrev pub compile_over : List ℕ → Columns → Program
 compile_over text columns = image columns (signals_in text) (outputs_in text)
 
--- the same in version 1, which stores no signals
+-- the image in version 1, which stores no signals
 abbrev pub compile_first_version : List ℕ → Columns → Program
 compile_first_version text columns = record (compile_over text columns) { version = 1; signals = [] }
 
@@ -23,12 +23,12 @@ compile_first_version text columns = record (compile_over text columns) { versio
 abbrev pub stored_columns : Program → Columns
 stored_columns program = record { width = program.width; of_signal = map (λ signal. signal.column) program.signals }
 
--- the image whose signals are moved to further columns
+-- the image of a text whose signals are moved to other columns
 abbrev pub compile_and_move : List ℕ → Columns → Columns → Program
 compile_and_move text old new = bound (compile_over text old) new.width new.of_signal
 
--- a text without a fault, with columns over which the verifier finds no fault in its image, and with further columns,
--- one for each signal
+-- the text has no fault, the verifier finds no fault in its image over the old columns, and there is a new column for each
+-- signal
 pub record CanMove (text : List ℕ) (old new : Columns) : Type 0 where
   pub faultless : first_refusal text ≡ None
   pub serve : AreColumnsFor (length (signals_in text)) old
@@ -36,17 +36,17 @@ pub record CanMove (text : List ℕ) (old new : Columns) : Type 0 where
   pub well_formed : IsWellFormed (compile_over text old)
   pub one_each : length new.of_signal ≡ length (signals_in text)
 
--- a file has the bytes of a program of a text without a fault, over columns of its signals
+-- the file has the bytes of the program, the text has no fault, and the columns serve its signals
 pub record IsFileOf (text : List ℕ) (columns : Columns) (program : Program) (file : List ℕ) : Type 0 where
   pub faultless : first_refusal text ≡ None
   pub serve : AreColumnsFor (length (signals_in text)) columns
   pub fits : IsEncodable program
   pub bytes : file ≡ spelling program
 
--- that program is the image
+-- the file has the bytes of the image of the text over the columns
 abbrev pub IsImageFile : List ℕ → Columns → List ℕ → Type 0
 IsImageFile text columns file = IsFileOf text columns (compile_over text columns) file
 
--- or the image in version 1
+-- the file has the bytes of the image in version 1
 abbrev pub IsFirstImageFile : List ℕ → Columns → List ℕ → Type 0
 IsFirstImageFile text columns file = IsFileOf text columns (compile_first_version text columns) file

@@ -13,12 +13,13 @@ use Rattle.mltl_base.specs.declared.signal.Signal.{Signal}
 abbrev pub stored : Signal × ℕ → StoredSignal
 stored pair = record { name = pair.0.name; truth = pair.0.truth; column = pair.1 }
 
--- the stored signals: names, kinds and columns, in order of declaration
+-- the stored signals: names, kinds and columns, in the order of declaration
 abbrev pub stored_signals : List Signal → List ℕ → List StoredSignal
 stored_signals signals columns = map stored (zip signals columns)
 
--- the program of outputs over signals by their numbers: version 2, the width of the columns, the instructions of the
--- distinct subformulas and expressions over columns, the outputs, the sizes that these need, and the signals
+-- the program is the image of outputs over signals by their numbers: it has version 2, the width of the columns, the
+-- instructions of the distinct subformulas and expressions over columns, the outputs, the sizes that these need, and the
+-- signals
 pub record IsImageOf (signals : List Signal) (columns : Columns) (outs : List Asked) (program : Program) : Type 0 where
   pub version : program.version ≡ 2
   pub width : program.width ≡ columns.width

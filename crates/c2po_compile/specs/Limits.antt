@@ -1,4 +1,4 @@
--- The limits that a program keeps, and the refusal of outputs that exceed one.
+-- The limits of a program, and the refusal of outputs that exceed a limit.
 
 use Rattle.std.specs.Prelude.{Bool, ◌||◌, if◌then◌else◌, nat_lt, Option, Some, None, List, length}
 use Rattle.std.specs.List.{list_any}
@@ -10,21 +10,21 @@ use Rattle.c2po_compile.specs.declared.fault.Refusal.TheVariants.{TooManyNodes, 
 use Rattle.c2po_compile.specs.declared.fault.CompileFault.{CompileFault}
 use Rattle.c2po_compile.specs.declared.fault.CompileFault.TheVariants.{Refused}
 
--- whether one of the three lists of instructions is longer than the limit
+-- one of the three lists of instructions is longer than the limit
 abbrev pub has_many_nodes : List Asked → Bool
 has_many_nodes outs = nat_lt MAX_INSTRUCTIONS (length (bz_expressions outs))
     || (nat_lt MAX_INSTRUCTIONS (length (subformulas Ft outs))
     || nat_lt MAX_INSTRUCTIONS (length (subformulas Pt outs)))
 
--- whether the worst-case delay of some future-time instruction is above the limit
+-- the worst-case delay of some future-time instruction is above the limit
 abbrev pub is_late : List Asked → Bool
 is_late outs = list_any (nat_lt MAX_DELAY) (worst_delays (ft_list outs))
 
--- whether queues and boxes need more slots together than the limit
+-- the queues and boxes together need more slots than the limit
 abbrev pub has_many_slots : List Asked → Bool
 has_many_slots outs = nat_lt MAX_SLOTS (slot_count (ft_list outs) (pt_list outs) (out_list outs))
 
--- the refusal of outputs over columns by the first limit that they exceed: instructions, then delays, then slots
+-- the refusal of outputs over columns for the first limit that they exceed: instructions, then delays, then slots
 unfoldable pub limit_refusal : List Asked → Option CompileFault
 limit_refusal outs =
     if has_many_nodes outs then Some (Refused 0 TooManyNodes)

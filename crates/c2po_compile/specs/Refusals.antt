@@ -1,4 +1,4 @@
--- Refusals of a specification, and the results that report them.
+-- Refusals of a specification, and results that report them.
 
 use Rattle.std.specs.Prelude.{◌≡◌, Option, None, Some, Result, Err, ⊤}
 use Rattle.c2po_lexer.specs.declared.fault.LexFault.{LexFault}
@@ -26,13 +26,13 @@ token_refusal (lexed.LongWord line) = Refused line LongWord
 token_refusal (lexed.Number line) = Refused line Number
 token_refusal lexed.Memory = Memory
 
--- for each fault of trees
+-- the refusal for each fault of trees
 abbrev pub tree_refusal : ParseFault → CompileFault
 tree_refusal (parsed.TooManyTokens line) = Refused line TooManyTokens
 tree_refusal (parsed.Grammar line) = Refused line Grammar
 tree_refusal parsed.Memory = Memory
 
--- for each fault of names, kinds, weights, ranges and tenses
+-- the refusal for each fault of names, kinds, weights, ranges and tenses
 abbrev pub check_refusal : TypeFault → CompileFault
 check_refusal (checked.Unknown line) = Refused line Unknown
 check_refusal (checked.Twice line) = Refused line Twice
@@ -47,26 +47,26 @@ check_refusal (checked.Range line) = Refused line Range
 check_refusal (checked.Tense line) = Refused line Tense
 check_refusal checked.Memory = Memory
 
--- for each limit; line 0 is the whole specification
+-- the refusal for each limit; line 0 stands for the whole specification
 abbrev pub build_refusal : BuildFault → CompileFault
 build_refusal built.TooManyNodes = Refused 0 TooManyNodes
 build_refusal built.TooLate = Refused 0 TooLate
 build_refusal built.TooManySlots = Refused 0 TooManySlots
 build_refusal built.Memory = Memory
 
--- and for each fault of a header
+-- the refusal for each fault of a header
 abbrev pub header_refusal : HeaderFault → CompileFault
 header_refusal header.NoHeader = BadHeader why.NoHeader
 header_refusal (header.Missing name) = BadHeader (why.Missing name)
 header_refusal (header.Twice name) = BadHeader (why.Twice name)
 header_refusal header.Memory = Memory
 
--- what was found, unless something is refused before
+-- the result, unless there is an earlier refusal
 abbrev pub unless_refused : {T F : Type 0} → Option F → Result T F → Result T F
 unless_refused None found = found
 unless_refused (Some refusal) found = Err refusal
 
--- a result is the first refusal that there is; none concerns a header, and memory may be lacking at any time
+-- the fault is the first refusal, which never concerns a header, or is out of memory
 abbrev pub IsFirstRefusal : Option CompileFault → CompileFault → Type 0
 IsFirstRefusal first (Refused line why) = first ≡ Some (Refused line why)
 IsFirstRefusal first (BadHeader why) = ⊥

@@ -1,4 +1,4 @@
--- Specifications that are unfolded and can be built.
+-- Unfolded specifications that can be built.
 
 use Rattle.std.specs.Prelude.{List, length, All}
 use Rattle.mltl_base.specs.declared.signal.Signal.{Signal}
@@ -8,7 +8,8 @@ use Rattle.c2po_ast.specs.Faults.{HasRanges}
 use Rattle.c2po_ast.specs.Outputs.{IsSound, asked}
 use Rattle.c2po_types.specs.Outputs.{HasPlainName}
 
--- outputs over signals: each reads signals that exist by their kinds, has ranges, and a name that can be written
+-- the unfolded specification is sound, and its outputs read existing signals by their kinds, have ranges, and have names of
+-- letters, digits and `_`
 pub record IsUnfolded (signals : List Signal) (spec : Expanded) : Type 0 where
   pub sound : IsSound spec (length signals)
   pub ranged : All HasRanges (asked spec)

@@ -1,4 +1,4 @@
-//! Why a specification has no program.
+//! Faults of a specification that has no program.
 
 ghost use Rattle.std.specs.Prelude.{◌≡◌};
 
@@ -8,11 +8,11 @@ use std::alloc::AllocError;
 /// The first limit that a specification exceeds: instructions, then delays, then slots.
 #[derive(Clone, Copy, PartialEq, Eq, Debug)]
 pub enum BuildFault {
-    /// A part would have more instructions than the limit.
+    /// A list of instructions would be longer than the limit.
     TooManyNodes,
     /// A future-time instruction would have a worst-case delay above the limit.
     TooLate,
-    /// The queues and boxes would have more slots together than the limit.
+    /// The queues and boxes together would have more slots than the limit.
     TooManySlots,
     /// Out of memory.
     Memory,

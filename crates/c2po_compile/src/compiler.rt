@@ -1,4 +1,4 @@
-//! From the text of a specification and the header of its traces to a checked program.
+//! The compilation of a text over the columns of a header line.
 
 ghost use Rattle.std.specs.Prelude.{◌≡◌, ◌≢◌, ◌<◌, ◌≤◌, Err, Ok, None, Some, length, IfErr, IfOk};
 ghost use Rattle.std.specs.Option.{ForSome, option_copied};
@@ -20,11 +20,12 @@ use obs_verify::Checked;
 use std::alloc::Global;
 use trace_columns::{header, in_order};
 
-/// Compiles the text of a specification over the columns of a header line: a text of at most 1,048,576 bytes, a line
-/// of at most 65,535. Without a header line each signal has the column of its number.
+/// Compiles the text of a specification, at most 1,048,576 bytes, over the columns of a header
+/// line, at most 65,535 bytes. Without a header line each signal has the column of its number.
 ///
-/// Errors, the first of these: `Refused` with the first fault of the text; `BadHeader` where the line doesn't name each
-/// signal once; `Refused` with line 0 where a limit is exceeded. `Memory` when out of memory.
+/// Errors, the first of these: `Refused` with the first fault of the text; `BadHeader` if the line
+/// doesn't name each signal once; `Refused` with line 0 if a limit is exceeded. `Memory` when out
+/// of memory.
 pub fn compile(
     alloc: Global,
     text: &[u8],
@@ -43,10 +44,10 @@ pub fn compile(
     back(alloc, &spec, &columns)
 }
 
-/// Returns the columns of a specification's signals: those of a header line of at most 65,535 bytes; without one each
-/// signal has the column of its number.
+/// Returns the columns of a specification's signals, which a header line of at most 65,535 bytes
+/// names. Without a header line each signal has the column of its number.
 ///
-/// Errors: `BadHeader` where the line doesn't name each signal once; `Memory` when out of memory.
+/// Errors: `BadHeader` if the line doesn't name each signal once; `Memory` when out of memory.
 pub fn columns_of(
     alloc: Global,
     spec: &TypedSpec,
@@ -68,7 +69,7 @@ pub fn columns_of(
     }
 }
 
-/// The columns that a header line names.
+/// Returns the columns that a header line names.
 fn columns_named(alloc: Global, spec: &TypedSpec, line: &[u8]) -> Result<Columns, CompileFault>
     requires { length line.now < MAX_LINE_BYTES }
     ensures columns { IfOk result
@@ -82,7 +83,7 @@ fn columns_named(alloc: Global, spec: &TypedSpec, line: &[u8]) -> Result<Columns
     Ok(columns)
 }
 
-/// The columns without a header line.
+/// Returns the columns without a header line.
 fn columns_in_order(alloc: Global, spec: &TypedSpec) -> Result<Columns, CompileFault>
     ensures columns { IfOk result
         (λ columns. columns_by (declared (spec_shape spec.now)) None ≡ Ok columns) }

@@ -1,4 +1,4 @@
-//! Why a specification isn't compiled.
+//! The fault of a specification or a header line that isn't compiled.
 
 ghost use Rattle.std.specs.Prelude.{◌≡◌, ◌≤◌, length};
 ghost use Rattle.c2po_compile.specs.FaultTexts.{header_fault_of, refusal_text};
@@ -14,51 +14,51 @@ use std::error::Error;
 use std::fmt;
 use trace_columns::HeaderFault;
 
-/// Why a specification is refused.
+/// The reason why a specification is refused.
 #[derive(Clone, Copy)]
 pub enum Refusal {
-    /// A byte that begins no token.
+    /// A byte begins no token.
     Letter,
-    /// A word of more than 64 bytes.
+    /// A word has more than 64 bytes.
     LongWord,
-    /// A number above 9,223,372,036,854,775,807.
+    /// A number is above 9,223,372,036,854,775,807.
     Number,
-    /// An item of more than 1,024 tokens.
+    /// An item has more than 1,024 tokens.
     TooManyTokens,
-    /// An item that isn't in the grammar.
+    /// An item isn't in the grammar.
     Grammar,
-    /// A name that isn't declared.
+    /// A name isn't declared.
     Unknown,
-    /// A name that is declared twice.
+    /// A name is declared twice.
     Twice,
-    /// A value of another kind than its place asks for.
+    /// A value has another kind than its place requires.
     Kind,
-    /// A struct built with another number of arguments than it has fields.
+    /// The number of arguments isn't the struct's number of fields.
     Count,
-    /// A field that the struct doesn't have.
+    /// The struct has no such field.
     Field,
-    /// An interval or a number of a quantifier past its bounds.
+    /// An interval or the number of a quantifier is out of bounds.
     Bounds,
-    /// More signals than the limit.
+    /// The signals are more than the limit.
     Signals,
-    /// A value that unfolds to more than the limit.
+    /// A value unfolds to more than the limit.
     Wide,
-    /// A divisor that isn't one number other than 0.
+    /// A divisor isn't a single number, or is 0.
     Divisor,
-    /// An integer that may leave 64 bits.
+    /// An integer may leave 64 bits.
     Range,
-    /// Future and past operators in one formula.
+    /// An output has an operator of the other tense than its section.
     Tense,
-    /// More instructions than the limit.
+    /// The instructions are more than the limit.
     TooManyNodes,
-    /// A worst-case delay above the limit.
+    /// A worst-case delay is above the limit.
     TooLate,
-    /// More queue slots and boxes than the limit.
+    /// The slots of queues and the boxes are more than the limit.
     TooManySlots,
 }
 
 impl Refusal {
-    /// What is wrong, in words.
+    /// Returns the reason in words.
     pub fn text(self) -> &'static str
         ensures text { result.now ≡ refusal_text self }
         ensures short { length result.now ≤ 25 }
@@ -87,7 +87,7 @@ impl Refusal {
     }
 }
 
-/// What is wrong with a header line.
+/// The fault of a header line.
 #[derive(Drop)]
 pub enum HeaderWhy {
     /// The line doesn't begin with `#`.
@@ -99,7 +99,7 @@ pub enum HeaderWhy {
 }
 
 impl HeaderWhy {
-    /// The fault of the header, as the reader of headers has it.
+    /// Returns the fault as the fault of the header reader.
     fn fault(&self) -> HeaderFault
         ensures { result ≡ header_fault_of self.now }
     {
@@ -111,12 +111,13 @@ impl HeaderWhy {
     }
 }
 
-/// Why a specification isn't compiled.
+/// The fault of a specification or a header line that isn't compiled.
 #[derive(Drop)]
 pub enum CompileFault {
-    /// The specification has a fault, or is past a limit. Lines count from 1; line 0 is the whole specification.
+    /// The specification has a fault, or exceeds a limit. Lines are counted from 1; line 0 stands
+    /// for the whole specification.
     Refused(u32, Refusal),
-    /// The header line doesn't name the signals.
+    /// The header line doesn't name each signal once.
     BadHeader(HeaderWhy),
     /// Out of memory.
     Memory,

@@ -1,4 +1,4 @@
-//! What images have: each law is the contract of a function with an empty body.
+//! Laws of images: each law is the contract of a function with an empty body.
 
 ghost use Rattle.std.specs.Prelude.{◌≡◌, List as Members, All, map};
 ghost use Rattle.mltl_base.specs.Atoms.{Row};
@@ -17,7 +17,8 @@ ghost use Rattle.c2po_compile.specs.Conditions.{IsBuildable};
 ghost use Rattle.c2po_compile.specs.Images.{IsImageOf};
 ghost use Rattle.c2po_compile.specs.BuildLimits.{IsWithinLimits};
 
-/// A specification that can be built within the limits has one image, in which the verifier finds no fault.
+/// A specification that can be built within the limits has one image, in which the verifier finds
+/// no fault.
 #[tactic(auto, using(crate::proofs::Building::image_well_formed, crate::proofs::Building::image_once))]
 pub fn images_are_well_formed()
     ensures well_formed { (spec : Spec) (signals : Members Input) (columns : Places)
@@ -33,8 +34,8 @@ pub fn images_are_well_formed()
         → IsImageOf signals columns outs p → IsImageOf signals columns outs q → p ≡ q }
 {}
 
-/// An image has the outputs of its specification over columns, in their core forms and with the same names, and the
-/// same reports of all rows.
+/// An image has the outputs of its specification over columns, in their core forms, with the same
+/// names and the same reports of all rows.
 #[tactic(auto, using(crate::proofs::Tenses::image_unfolds, crate::proofs::Tenses::image_names, crate::proofs::Tenses::image_tells))]
 pub fn images_tell_their_outputs()
     ensures outputs { (signals : Members Input) (columns : Places) (outs : Members Asked)

@@ -1,4 +1,4 @@
-//! What texts say, and what compiled programs report: each law is the contract of a function with an empty body.
+//! Laws of texts and compiled programs: each law is the contract of a function with an empty body.
 
 ghost use Rattle.std.specs.Prelude.{◌≡◌, ◌≤◌, ◌↔◌, ℕ, List as Seq, Err, None, Ok, Option as Maybe, Some, map, slice_get};
 ghost use Rattle.mltl_base.specs.Atoms.{Row};
@@ -15,8 +15,8 @@ ghost use Rattle.c2po_compile.specs.Compiled.{IsImageUnder, columns_by, compile_
 ghost use Rattle.c2po_compile.specs.Simplified.{CanMoveSimple, TellsSettled, compile_simplified_and_move, compile_simplified, slots_in};
 ghost use Rattle.c2po_compile.specs.declared.fault.CompileFault.{CompileFault as Fault};
 
-/// A text says what the rules of the grammar say: `items_in` has the items of a text that isn't refused, which no other
-/// items are, and the first refusal is by one of these rules.
+/// A text that isn't refused says the items of `items_in` and no others by the rules of the
+/// grammar. The first refusal of a text is by one of these rules.
 #[tactic(auto, using(crate::proofs::ByRules::alone, crate::proofs::ByRules::refused_by, crate::proofs::ByRules::says))]
 pub fn texts_say_what_rules_say()
     ensures says { (text : Seq ℕ) → first_refusal text ≡ None → Says text (items_in text) }
@@ -26,10 +26,11 @@ pub fn texts_say_what_rules_say()
         first_refusal text ≡ Some fault → IsRefusedBy text fault }
 {}
 
-/// The program of a text and a header line is the image of the text over columns that its signals have there.
+/// The program of a text and a header line is the image of the text over the columns of its
+/// signals.
 ///
-/// It reports what the plain outputs of the text report over those columns: the same reports of all rows in either
-/// style, with the same worst-case delays, under the same names.
+/// Its reports are the reports of the text's plain outputs over those columns, for all rows in
+/// either style, with the same worst-case delays and names.
 pub fn programs_tell_their_texts()
     ensures image { (text : Seq ℕ) (header : Maybe (Seq ℕ)) (program : Observer) →
         compile_text text header ≡ Ok program → IsImageUnder text header program }
@@ -48,8 +49,8 @@ pub fn programs_tell_their_texts()
         output_names program ≡ map (λ asked. asked.name) (outputs_in text) }
 {}
 
-/// An image whose signals are moved to other columns reports what the plain outputs of its text report over those
-/// columns, under the same names.
+/// An image whose signals are moved to other columns has the reports of its text's plain outputs
+/// over those columns, with the same names.
 pub fn moved_images_tell_their_texts()
     ensures reports { (style : Style) (text : Seq ℕ) (old new : Places) (rows : Seq Row) →
         CanMove text old new →
@@ -59,8 +60,8 @@ pub fn moved_images_tell_their_texts()
         output_names (compile_and_move text old new) ≡ map (λ asked. asked.name) (outputs_in text) }
 {}
 
-/// A text that is compiled in simplified form has a program that needs no more slots and boxes than its plain one. It is
-/// refused exactly as that is.
+/// A program in simplified form needs no more slots and boxes than the plain program. A text is
+/// refused in simplified form exactly if it is refused in plain form, for the same fault.
 pub fn simple_programs_need_no_more()
     ensures slots { (text : Seq ℕ) (header : Maybe (Seq ℕ)) (simple plain : Observer) →
         compile_simplified text header ≡ Ok simple → compile_text text header ≡ Ok plain →
@@ -69,8 +70,9 @@ pub fn simple_programs_need_no_more()
         (compile_simplified text header ≡ Err fault) ↔ (compile_text text header ≡ Err fault) }
 {}
 
-/// A program in simplified form reports of each output what is settled for the plain output of its text, no later
-/// than that output's worst-case delay. So does its image whose signals are moved to other columns.
+/// A program in simplified form reports for each output verdicts that are settled for the plain
+/// output of its text, within that output's worst-case delay. So does its image whose signals are
+/// moved to other columns.
 pub fn simple_programs_tell_plain_outputs()
     ensures told { (style : Style) (text : Seq ℕ) (header : Maybe (Seq ℕ)) (columns : Places)
         (program : Observer) (rows : Seq Row) (k : ℕ) (o : Told) →

@@ -1,9 +1,10 @@
 //! The compiler: from the text of a specification to a checked program.
 //!
-//! [`front`] reads a text: its tokens, the trees of its items, and the check of those. [`back`] makes the program of
-//! a checked specification, over the columns of its signals. [`compile`] does both, and takes the columns from the
-//! header line of a trace. `compile_text` in this crate's `specs/` defines the program of a text and a header line,
-//! or why they are refused. [`back_simple`] makes the program in simplified form, where that is smaller.
+//! [`front`] reads a text: its tokens, the trees of its items, and their check. [`back`] makes the
+//! program of a checked specification, over the columns of its signals. [`compile`] does both, and
+//! takes the columns from the header line of a trace. `compile_text` in this crate's `specs/`
+//! defines the program of a text and a header line, or their refusal. [`back_simple`] makes the
+//! program in simplified form, if that is smaller.
 //!
 //! ```text
 //! let text = b"INPUT p, q: bool; FTSPEC f: p && F[0,2] q;";

@@ -1,4 +1,4 @@
-//! The bytes of names, which program files count in 32 bits.
+//! The size of names, which program files count in 32 bits.
 
 ghost use Rattle.std.specs.Prelude.{◌≡◌, ◌<◌, ◌↔◌, ◌^◌, IsTrue, length};
 ghost use Rattle.std.specs.List.{flat_map};
@@ -7,7 +7,7 @@ ghost use Rattle.obs_binary.specs.Layout.{out_names, signal_name, signal_names};
 
 use mltl_base::{Out, Program, StoredSignal};
 
-/// How many bytes the names of outputs have together.
+/// Returns the number of bytes of all names of outputs.
 fn output_bytes(outs: &[Out]) -> u64
     requires { length outs.now < 2 ^ 32 }
     ensures { result ≡ length (flat_map own_name outs.now) }
@@ -19,7 +19,7 @@ fn output_bytes(outs: &[Out]) -> u64
     bytes
 }
 
-/// How many bytes the names of signals have together.
+/// Returns the number of bytes of all names of signals.
 fn signal_bytes(signals: &[StoredSignal]) -> u64
     requires { length signals.now < 2 ^ 32 }
     ensures { result ≡ length (flat_map signal_name signals.now) }
@@ -31,7 +31,7 @@ fn signal_bytes(signals: &[StoredSignal]) -> u64
     bytes
 }
 
-/// Whether a program file can count the bytes of a program's names.
+/// Returns `true` if a program file can count the bytes of the program's names.
 pub fn are_countable(program: &Program) -> bool
     requires outs { length program.now.outs < 2 ^ 32 }
     requires signals { length program.now.signals < 2 ^ 32 }

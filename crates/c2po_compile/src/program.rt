@@ -1,4 +1,4 @@
-//! From a checked specification to its program.
+//! The program of a checked specification.
 
 ghost use Rattle.std.specs.Prelude.{◌≡◌, None, length, IfErr, IfOk, OnOk};
 ghost use Rattle.c2po_ast.specs.ItemShape.{spec_shape};
@@ -22,10 +22,11 @@ use obs_verify::Checked;
 use set_expand::expand;
 use std::alloc::Global;
 
-/// The image of a specification over the columns of its signals, one column for each.
+/// Returns the image of a specification over the columns of its signals, one column for each.
 ///
-/// Errors: `Refused` with line 0 and the first limit that is exceeded: instructions, then delays, then slots; `Memory`
-/// when out of memory, and at 2^32 bytes of names, which no text reaches. `BadHeader` never comes.
+/// Errors: `Refused` with line 0 and the first limit that is exceeded: instructions, then delays,
+/// then slots; `Memory` when out of memory, or at 2^32 bytes of names, which no text reaches.
+/// `BadHeader` never occurs.
 pub fn back(alloc: Global, spec: &TypedSpec, columns: &Columns) -> Result<Checked, CompileFault>
     requires columns { AreColumnsFor (length (declared (spec_shape spec.now))) columns.now }
     ensures image { IfOk result (λ checked. checked
@@ -39,7 +40,7 @@ pub fn back(alloc: Global, spec: &TypedSpec, columns: &Columns) -> Result<Checke
     back_of(alloc, &expanded, spec, columns)
 }
 
-/// The image of a specification that is unfolded. The errors are those of [`back`].
+/// Returns the image of an unfolded specification. Errors: as in [`back`].
 pub(crate) fn back_of(
     alloc: Global,
     expanded: &Expanded,
@@ -60,7 +61,8 @@ pub(crate) fn back_of(
     Ok(checked)
 }
 
-/// Makes the image of outputs over the signals of a specification. It is out of memory at 2^32 bytes of names, too.
+/// Makes the image of outputs over the signals of a specification. Fails as if out of memory at
+/// 2^32 bytes of names.
 pub(crate) fn built(
     alloc: Global,
     expanded: &Expanded,

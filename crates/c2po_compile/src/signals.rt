@@ -10,7 +10,8 @@ use c2po_types::TypedSpec;
 use mltl_base::limits::MAX_SIGNALS;
 use mltl_base::{List, Signal};
 
-/// The signals in order of declaration, which have distinct names. All names are made of letters, digits and `_`.
+/// Returns the signals, which have distinct names, in the order of declaration. All names consist
+/// of letters, digits and `_`.
 pub fn signals_of(spec: &TypedSpec) -> &List<Signal>
     ensures signals { result.now ≡ declared (spec_shape spec.now) }
     ensures named { HaveOwnNames result.now }

@@ -1,4 +1,4 @@
-//! From a checked specification to its program in simplified form.
+//! The program of a checked specification in simplified form.
 
 ghost use Rattle.std.specs.Prelude.{◌≡◌, ◌<◌, ◌^◌, None, length, if◌then◌else◌, nat_le, IfErr, IfOk, OnOk};
 ghost use Rattle.c2po_ast.specs.ItemShape.{spec_shape};
@@ -20,7 +20,8 @@ use obs_verify::Checked;
 use set_expand::expand;
 use std::alloc::Global;
 
-/// The first program where it has no more slots and boxes than the second, else the second.
+/// Returns the simplified program if it has no more slots and boxes than the plain one, else the
+/// plain one.
 fn smaller(simple: Checked, plain: Checked) -> Checked
     requires simple { slots_in simple < 2 ^ 64 }
     requires plain { slots_in plain < 2 ^ 64 }
@@ -36,10 +37,11 @@ fn smaller(simple: Checked, plain: Checked) -> Checked
     }
 }
 
-/// The image of a specification in simplified form, over the columns of its signals. Where that form exceeds a limit, or
-/// needs more slots and boxes, it is the image that [`back`](crate::back) makes.
+/// Returns the image of a specification in simplified form, over the columns of its signals. If
+/// that form exceeds a limit or needs more slots and boxes, it is the image that
+/// [`back`](crate::back) makes.
 ///
-/// Errors: those of `back`.
+/// Errors: as in `back`.
 pub fn back_simple(
     alloc: Global,
     spec: &TypedSpec,
@@ -64,7 +66,7 @@ pub fn back_simple(
         Ok(simple) => Ok(smaller(simple, plain)),
         Err(fault) => match fault {
             BuildFault::Memory => Err(CompileFault::Memory),
-            // the simplified form is past a limit
+            // The simplified form exceeds a limit.
             _ => Ok(plain),
         },
     }

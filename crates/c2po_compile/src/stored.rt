@@ -6,7 +6,7 @@ ghost use Rattle.c2po_compile.specs.Images.{stored_signals};
 use mltl_base::{List, Signal, StoredSignal};
 use std::alloc::{AllocError, Global};
 
-/// Each signal with its column, in order of declaration.
+/// Returns each signal with its column, in the order of declaration.
 pub fn store_signals(
     alloc: Global,
     signals: &[Signal],

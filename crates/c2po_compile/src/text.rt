@@ -1,4 +1,4 @@
-//! From the text of a specification to its checked tree.
+//! The checked specification of a text.
 
 ghost use Rattle.std.specs.Prelude.{◌≡◌, ◌≢◌, ◌≤◌, None, length, IfErr, IfOk, OnOk};
 ghost use Rattle.c2po_ast.specs.ItemShape.{spec_shape};
@@ -12,10 +12,11 @@ use c2po_types::{TypedSpec, check_owned};
 use mltl_base::limits::MAX_SPEC_BYTES;
 use std::alloc::Global;
 
-/// The specification that a text of at most 1,048,576 bytes says.
+/// Returns the specification of a text of at most 1,048,576 bytes.
 ///
-/// Errors: `Refused` with the first fault of the text: one of its tokens, else one of the trees of its items, else one
-/// of names, kinds, weights, ranges or tenses; `Memory` when out of memory. `BadHeader` never comes.
+/// Errors: `Refused` with the first fault of the text: of its tokens, else of the trees of its
+/// items, else of names, kinds, weights, ranges or tenses; `Memory` when out of memory. `BadHeader`
+/// never occurs.
 #[tactic(auto, using(crate::proofs::ByRules::answered_by, crate::proofs::ByRules::said))]
 pub fn front(alloc: Global, text: &[u8]) -> Result<TypedSpec, CompileFault>
     requires { length text.now ≤ MAX_SPEC_BYTES }
