@@ -1,4 +1,4 @@
-//! The fault of a specification or a header line that isn't compiled.
+//! Faults of compilation.
 
 ghost use Rattle.std.specs.Prelude.{◌≡◌, ◌≤◌, length};
 ghost use Rattle.c2po_compile.specs.FaultTexts.{header_fault_of, refusal_text};
@@ -111,7 +111,7 @@ impl HeaderWhy {
     }
 }
 
-/// The fault of a specification or a header line that isn't compiled.
+/// The fault for which a specification isn't compiled.
 #[derive(Drop)]
 pub enum CompileFault {
     /// The specification has a fault, or exceeds a limit. Lines are counted from 1; line 0 stands
