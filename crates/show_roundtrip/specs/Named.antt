@@ -8,27 +8,27 @@ use Rattle.mltl_base.specs.declared.program.StoredSignal.{StoredSignal}
 use Rattle.mltl_base.specs.Programs.{out_name}
 use Rattle.show_roundtrip.specs.Written.{IsName, IsNumeral}
 
--- the names of stored signals are names of the language
+-- each stored signal has a name of the language
 abbrev pub AreNamed : List StoredSignal → Type 0
 AreNamed [] = ⊤
 AreNamed (signal ∷ signals) = IsName signal.name × AreNamed signals
 
--- the name of each output, counted from a number on, is the text of its number or a name of the language
+-- each output, counted from k on, has the text of its number or a name of the language as its name
 abbrev pub AreLabelled : ℕ → List Out → Type 0
 AreLabelled k [] = ⊤
 AreLabelled k (out ∷ outs) = ((out_name out ≡ decimal k) ⊎ IsName (out_name out)) × AreLabelled (k + 1) outs
 
--- a constant is a number of the language: none is negative
+-- the constant, if the instruction is one, is a number of the language, so it isn't negative
 abbrev pub HasNoNegative : bz.BzOp → Type 0
 HasNoNegative (bz.TheVariants.Const n) = IsNumeral n
 HasNoNegative op = ⊤
 
--- each constant among instructions is one
+-- each constant among the instructions is a number of the language
 abbrev pub HaveNoNegatives : List bz.BzOp → Type 0
 HaveNoNegatives [] = ⊤
 HaveNoNegatives (op ∷ ops) = HasNoNegative op × HaveNoNegatives ops
 
--- a program whose signals, outputs and constants are so
+-- the program's signals and outputs have names that can be written, and its constants can be written
 pub record HasOwnWords (program : Program) : Type 0 where
   pub signals : AreNamed program.signals
   pub outputs : AreLabelled 0 program.outs

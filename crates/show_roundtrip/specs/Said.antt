@@ -1,4 +1,4 @@
--- Lines of a specification in its plainest form: the tokens by which each is written, and the item that it says.
+-- Lines of a specification in its plainest form: the tokens and the item of each line.
 
 use Rattle.std.specs.Prelude.{◌+◌, ℕ, pos, Bool, true, false, List, [], ◌∷◌, ◌++◌, codes, Option, Some, None, ⊤}
 use Rattle.std.specs.List.{flat_map}
@@ -64,7 +64,7 @@ interval_marks window =
     token (what.Sign sign.LeftSquare) ∷ token (what.Number (pos window.lo)) ∷ token (what.Sign sign.Comma)
     ∷ token (what.Number (pos window.hi)) ∷ token (what.Sign sign.RightSquare) ∷ []
 
--- an operator between two references
+-- the tokens of an operator between two references
 abbrev pub spaced_marks : Reference → List Mark → Reference → List Mark
 spaced_marks x operator y = token (reference_token x) ∷ space ∷ operator ++ space ∷ token (reference_token y) ∷ []
 
@@ -91,12 +91,12 @@ section_word (formula Pt label x) = keyword.PtSpec
 section_word (contract Ft label x y) = keyword.FtSpec
 section_word (contract Pt label x y) = keyword.PtSpec
 
--- a label and its colon, or nothing
+-- the tokens of a label and its colon, or nothing
 abbrev pub label_marks : Option (List ℕ) → List Mark
 label_marks None = []
 label_marks (Some x) = token (what.Word x) ∷ token (what.Sign sign.Colon) ∷ space ∷ []
 
--- the text between the section's word and the `;`
+-- the tokens between the section's word and the `;`
 abbrev pub body_marks : Line → List Mark
 body_marks (input x truth) =
     token (what.Word x) ∷ token (what.Sign sign.Colon) ∷ space ∷ token (what.Reserved (kind_word truth)) ∷ []
@@ -106,21 +106,21 @@ body_marks (contract engine label x y) =
     label_marks label ++ token (reference_token x) ∷ space ∷ token (what.Sign sign.Promises) ∷ space
     ∷ token (reference_token y) ∷ []
 
--- how a line is written
+-- the tokens of a line
 abbrev pub line_marks : Line → List Mark
 line_marks line =
     token (what.Reserved (section_word line)) ∷ space ∷ body_marks line ++ token (what.Sign sign.Semicolon) ∷ newline
     ∷ []
 
--- how lines are written, one after the other
+-- the tokens of lines, one after another
 abbrev pub lines_marks : List Line → List Mark
 lines_marks lines = flat_map line_marks lines
 
--- a reference that a text can have: a name is a name of the language, a number isn't negative
+-- the reference can be written: a name is a name of the language, and a number isn't negative
 abbrev pub HasToken : Reference → Type 0
 HasToken x = IsToken (reference_token x)
 
--- a form over such references, with bounds that a text can have
+-- the references and bounds of the form can be written
 abbrev pub HasTokens : Form → Type 0
 HasTokens (minus x) = HasToken x
 HasTokens (arith op x y) = HasToken x × HasToken y
@@ -129,19 +129,19 @@ HasTokens (negation x) = HasToken x
 HasTokens (logic op x y) = HasToken x × HasToken y
 HasTokens (between op window x y) = IsNumeral (pos window.lo) × IsNumeral (pos window.hi) × HasToken x × HasToken y
 
--- a label, where there is one, is a name of the language
+-- the label, if there is one, is a name of the language
 abbrev pub HasName : Option (List ℕ) → Type 0
 HasName None = ⊤
 HasName (Some x) = IsName x
 
--- a line of such names, forms and references
+-- the names, references and bounds of the line can be written
 abbrev pub HasWords : Line → Type 0
 HasWords (input x truth) = IsName x
 HasWords (define x form) = IsName x × HasTokens form
 HasWords (formula engine label x) = HasName label × HasToken x
 HasWords (contract engine label x y) = HasName label × HasToken x × HasToken y
 
--- each line is so
+-- each line can be written
 abbrev pub HaveWords : List Line → Type 0
 HaveWords [] = ⊤
 HaveWords (line ∷ lines) = HasWords line × HaveWords lines
@@ -167,7 +167,7 @@ abbrev pub kind_name : Bool → List ℕ
 kind_name true = codes "bool"
 kind_name false = codes "int"
 
--- what a line says
+-- the body of the item that a line says
 abbrev pub line_body : ℕ → Line → BodyShape
 line_body n (input x truth) = item.input (x ∷ []) (type_named (kind_name truth))
 line_body n (define x form) = item.define x (form_shape n form)

@@ -1,4 +1,4 @@
--- Lines whose declared names are new, and the programs that say what their lines do.
+-- Lines that declare new names, and the signals that lines declare.
 
 use Rattle.std.specs.Prelude.{◌≡◌, ◌+◌, ℕ, List, [], ◌∷◌, ⊤}
 use Rattle.mltl_base.specs.declared.program.StoredSignal.{StoredSignal}
@@ -8,18 +8,18 @@ use Rattle.c2po_types.specs.Outputs.{Place, place_after}
 use Rattle.obs_show.specs.Lines.{Line, input, define, formula, contract}
 use Rattle.show_roundtrip.specs.Said.{line_body}
 
--- the name that a line declares, if it declares one, isn't known
+-- the name that the line declares, if it declares one, isn't known
 abbrev pub IsNew : Line → Env → Type 0
 IsNew (input x truth) env = env x ≡ nothing
 IsNew (define x form) env = env x ≡ nothing
 IsNew (formula engine label x) env = ⊤
 IsNew (contract engine label x y) env = ⊤
 
--- from a place on, each line declares a name that isn't known before it
+-- from a place on, each line that declares a name declares a name that isn't known before it
 unfoldable pub AreNew : ℕ → List Line → Place → Type 0
 AreNew n [] p = ⊤
 AreNew n (line ∷ lines) p = IsNew line p.values × AreNew (n + 1) lines (place_after (line_body n line) p)
 
--- a stored signal as a specification declares it
+-- the signal of a specification for a stored signal
 abbrev pub declared_by : StoredSignal → Signal
 declared_by signal = record { name = signal.name; truth = signal.truth }

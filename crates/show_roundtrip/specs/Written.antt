@@ -33,7 +33,7 @@ mark_text (token w) = token_text w
 mark_text space = 32 ∷ []
 mark_text newline = 10 ∷ []
 
--- the text that is written
+-- the written text
 abbrev pub marks_text : List Mark → List ℕ
 marks_text marks = flat_map mark_text marks
 
@@ -46,26 +46,26 @@ tokens_by line start (token w ∷ marks) =
 tokens_by line start (space ∷ marks) = tokens_by line (start + 1) marks
 tokens_by line start (newline ∷ marks) = tokens_by (line + 1) (start + 1) marks
 
--- a name of the language: a word of at most 64 bytes that isn't reserved
+-- the name is a name of the language: a word of at most 64 bytes that isn't reserved
 pub record IsName (x : List ℕ) : Type 0 where
   pub begins : begins_word (slice_index x 0) ≡ true
   pub word : AllPass is_in_word x
   pub short : length x ≤ 64
   pub free : keyword_of x ≡ None
 
--- a number that a text can have
+-- the number can be written in a text: from 0 to 2 ^ 63 - 1
 abbrev pub IsNumeral : ℤ → Type 0
 IsNumeral (pos n) = n ≤ 9223372036854775807
 IsNumeral (negsuc n) = ⊥
 
--- a token that a text can have
+-- the token can be written in a text
 abbrev pub IsToken : What → Type 0
 IsToken (what.Word x) = IsName x
 IsToken (what.Reserved k) = ⊤
 IsToken (what.Number n) = IsNumeral n
 IsToken (what.Sign s) = ⊤
 
--- whether a sign ends before a byte, so that no longer sign and no comment begins with it
+-- the sign ends before the byte: no longer sign and no comment begins with both
 abbrev pub ends_before : Sign → ℕ → Bool
 ends_before sign.Less b = not (b == 61 || b == 45)
 ends_before sign.Minus b = not (b == 62 || b == 45)
@@ -74,19 +74,19 @@ ends_before sign.Greater b = not (b == 61)
 ends_before sign.Colon b = not (b == 61)
 ends_before _ b = true
 
--- whether a token ends before a byte
+-- the token ends before the byte
 abbrev pub token_ends : What → ℕ → Bool
 token_ends (what.Word x) b = not (is_in_word b)
 token_ends (what.Reserved k) b = not (is_in_word b)
 token_ends (what.Number n) b = not (is_ascii_digit b)
 token_ends (what.Sign s) b = ends_before s b
 
--- a token ends where a text follows it
+-- the token ends where the text after it begins, and there is such a text
 abbrev pub Ends : What → List ℕ → Type 0
 Ends w [] = ⊥
 Ends w (b ∷ bytes) = token_ends w b ≡ true
 
--- each token can occur in a text, and ends before what follows it
+-- each token can be written in a text, and ends before the text after it
 unfoldable pub MarksAreReadable : List Mark → Type 0
 MarksAreReadable [] = ⊤
 MarksAreReadable (token w ∷ marks) = IsToken w × Ends w (marks_text marks) × MarksAreReadable marks

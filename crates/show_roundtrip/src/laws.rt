@@ -1,4 +1,4 @@
-//! Laws on programs that are shown as text, and on the texts.
+//! Laws of programs that are shown as text, and of the texts.
 
 ghost use Rattle.std.specs.Prelude.{◌≡◌, ℕ, All, List, None, Ok, map};
 ghost use Rattle.mltl_base.specs.declared.program.Columns.{Columns as Places};
@@ -25,16 +25,15 @@ ghost use Rattle.show_roundtrip.specs.Unfolded.{declared_by};
 ghost use Rattle.show_roundtrip.specs.Said.{HaveWords, line_items, lines_marks};
 ghost use Rattle.show_roundtrip.specs.Written.{MarksAreReadable, Mark, tokens_by, marks_text};
 
-/// The tokens of a written text are those that were written, each at its line and its place.
+/// The tokens of a written text are the tokens that were written, each at its line and place.
 #[tactic(auto, using(crate::proofs::Reading::written_tokens))]
 pub fn written_tokens_are_read()
     ensures tokens { (marks : List Mark) → MarksAreReadable marks →
         tokens_of (marks_text marks) ≡ Ok (tokens_by 1 0 marks) }
 {}
 
-/// Lines whose names are names of the language, and whose numbers aren't negative, are read again:
-/// their text has the tokens by which they are written, and these say one item for each line, on
-/// that line.
+/// Lines whose names are names of the language, and whose numbers aren't negative, can be read:
+/// their text has the tokens that were written, and these say one item for each line, on that line.
 #[tactic(auto, using(crate::proofs::Items::lines_tokens, crate::proofs::Items::lines_items))]
 pub fn written_lines_are_read()
     ensures tokens { (shown_lines : List Line) → HaveWords shown_lines →
@@ -43,9 +42,9 @@ pub fn written_lines_are_read()
         spec_of (tokens_by 1 0 (lines_marks shown_lines)) ≡ Ok (line_items 1 shown_lines) }
 {}
 
-/// The lines of a well-formed program of version 2 mean its formulas: where their items have no
-/// fault, the outputs that they ask for, over the columns of the program's signals, are those that
-/// the program unfolds to.
+/// The lines of a well-formed program of version 2 mean its formulas: if their items have no fault,
+/// their outputs over the columns of the program's signals are the outputs that the program unfolds
+/// to.
 #[tactic(auto, using(crate::proofs::Meaning::program_asks, crate::proofs::Signals::program_declares))]
 pub fn written_lines_mean_their_formulas()
     ensures outputs { (program : Observer) → IsWellFormed program → program.version ≡ 2 →
@@ -56,8 +55,8 @@ pub fn written_lines_mean_their_formulas()
         signals_of (line_items 1 (shown_lines program)) ≡ map declared_by program.signals }
 {}
 
-/// A program that is the image of a specification returns when it is shown: where its text has no
-/// fault, the image of the text over the columns that the program stores is the program itself.
+/// The text of a program that is the image of a specification compiles to the program: if the text
+/// has no fault, its image over the columns that the program stores is the program itself.
 #[tactic(auto, using(crate::proofs::Returning::program_returns))]
 pub fn shown_programs_return()
     ensures returns { (signals : List Declared) (columns : Places) (outs : List Asked)
@@ -66,24 +65,24 @@ pub fn shown_programs_return()
         compile_over (text program) (stored_columns program) ≡ program }
 {}
 
-/// The text of a program is read again as its lines: where their names are names of the language
-/// and their numbers aren't negative, it says one item for each line.
+/// The text of a program can be read as its lines: if their names are names of the language and
+/// their numbers aren't negative, it says one item for each line.
 #[tactic(auto, using(crate::proofs::Returning::items_said))]
 pub fn shown_text_is_read()
     ensures items { (program : Observer) → HaveWords (shown_lines program) →
         items_in (text program) ≡ line_items 1 (shown_lines program) }
 {}
 
-/// The lines of a well-formed program of version 2 can be read where its own names and constants
-/// can be written.
+/// The lines of a well-formed program of version 2 can be read if its own names and constants can
+/// be written.
 #[tactic(auto, using(crate::proofs::Words::program_words))]
 pub fn programs_with_words_are_readable()
     ensures words { (program : Observer) → HasLayout program → IsWellFormed program →
         program.version ≡ 2 → HasOwnWords program → HaveWords (shown_lines program) }
 {}
 
-/// The names and constants of an image can be written: those of its text are names and numbers of
-/// the language. So can those of its simplified image.
+/// The names and constants of an image, simplified or not, can be written, since they are names and
+/// numbers of the language in its text.
 #[tactic(auto, using(crate::proofs::Images::image_words, crate::proofs::Images::simple_words))]
 pub fn images_have_words()
     ensures plain { (source : List ℕ) (columns : Places) → first_refusal source ≡ None →
@@ -92,9 +91,8 @@ pub fn images_have_words()
         HasOwnWords (compile_simplified_over source columns) }
 {}
 
-/// The image of a text without a fault returns when it is shown, also in simplified form: where the
-/// shown text has no fault, its image over the columns that the program stores is the program
-/// itself.
+/// The shown text of an image, simplified or not, compiles to the image: if the shown text has no
+/// fault, its image over the columns that the program stores is the program itself.
 #[tactic(auto, using(crate::proofs::Images::image_returns, crate::proofs::Images::simple_returns))]
 pub fn shown_images_return()
     ensures plain { (source : List ℕ) (columns : Places) (program : Observer) →
@@ -107,8 +105,8 @@ pub fn shown_images_return()
         compile_over (text program) (stored_columns program) ≡ program }
 {}
 
-/// The text of an image, simplified or not, has no fault where the image is within the limits of
-/// what is shown.
+/// The text of an image, simplified or not, has no fault if the image is within the limits of
+/// programs that can be shown.
 #[tactic(auto, using(crate::proofs::ShownImages::image_passes, crate::proofs::ShownImages::simple_passes))]
 pub fn shown_images_have_no_fault()
     ensures plain { (source : List ℕ) (columns : Places) (program : Observer) →
