@@ -53,6 +53,7 @@ pub fn build(
 }
 
 /// The delays and the sizes of a graph.
+#[derive(Drop)]
 struct Timing {
     delays: Delays,
     sizes: Sizes,

@@ -8,5 +8,3 @@ pub mod Outputs
 pub mod NodesRead
 pub mod Lists
 pub mod Assembly
-pub mod Marking
-pub mod Reaching

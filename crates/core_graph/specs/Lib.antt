@@ -6,4 +6,3 @@ pub mod Walks
 pub mod Reading
 pub mod Listings
 pub mod CountedWalks
-pub mod Reached

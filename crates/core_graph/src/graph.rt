@@ -15,7 +15,6 @@ use crate::keyed::Keyed;
 use crate::listing::list;
 use crate::node_vertices::read;
 use crate::ops::{bz_ops, ft_ops, numbered_outs, pt_ops};
-use crate::reach::reached;
 use c2po_ast::{Expanded, Plain, PlainOut};
 use mltl_base::{Columns, Graph, Part};
 use std::alloc::{AllocError, Global};
@@ -44,8 +43,7 @@ impl From<AllocError> for GraphFault {
 /// The instructions and the outputs of a specification, over the columns of its signals. No output mixes tenses.
 ///
 /// `TooManyNodes` comes exactly where one of the three lists would have more than `MAX_INSTRUCTIONS` members. The time
-/// is linear in the nodes, of which only those that outputs reach are put into the forest. Formulas may be as deep as there
-/// are nodes.
+/// is linear in the nodes. Formulas may be as deep as there are nodes.
 pub fn to_core(alloc: Global, spec: &Expanded, columns: &Columns) -> Result<Graph, GraphFault>
     requires nodes { AreSound (length columns.now.of_signal) spec.now.nodes }
     requires outs { All (NamesFormulas (trees spec.now.nodes)) spec.now.outs }
@@ -76,9 +74,8 @@ fn graph_of(
     ensures too_many { result ≡ Err GraphFault.TooManyNodes
         → AreMany (asked_of_nodes columns.now nodes.now outs.now) }
 {
-    let marks = reached(alloc, nodes, outs)?;
-    let mut forest = Forest::new(alloc, Keyed::by(&marks, nodes));
-    let ids = read(alloc, &mut forest, nodes, &marks, columns)?;
+    let mut forest = Forest::new(alloc, Keyed::by(nodes));
+    let ids = read(alloc, &mut forest, nodes, columns)?;
     graph_in(alloc, &forest, outs, &ids)
 }
 

@@ -22,13 +22,11 @@ impl BuildHasher for Keyed {
 }
 
 impl Keyed {
-    /// The key of the marked nodes. Vertices are found by any key, so no clause says which this is.
-    pub fn by(marks: &[bool], nodes: &[Plain]) -> Keyed {
+    /// The key of the nodes. Vertices are found by any key, so no clause says which this is.
+    pub fn by(nodes: &[Plain]) -> Keyed {
         let mut key = DefaultHasher::new();
-        for (node, mark) in nodes.iter().zip(marks) {
-            if *mark {
-                feed(&mut key, *node);
-            }
+        for node in nodes {
+            feed(&mut key, *node);
         }
         let mut start = DefaultHasher::new();
         start.write_u64(key.finish());

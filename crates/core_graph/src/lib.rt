@@ -12,7 +12,6 @@ mod keyed;
 mod listing;
 mod node_vertices;
 mod ops;
-mod reach;
 mod vertex;
 mod walk;
 

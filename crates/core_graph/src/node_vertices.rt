@@ -1,36 +1,30 @@
-//! The vertices of the plain nodes that outputs reach: one pass over the nodes, operands first.
+//! The vertices of the plain nodes: one pass over the nodes, operands first.
 
 ghost use Rattle.std.specs.Prelude.{◌≡◌, [], List, length, OnOk, IfOk};
 ghost use Rattle.c2po_ast.specs.declared.nodes.Plain.{Plain as Node};
 ghost use Rattle.c2po_ast.specs.Nodes.{AreSound, IsFormed, tree_of, trees};
 ghost use Rattle.core_graph.specs.Vertices.{Grows};
-ghost use Rattle.core_graph.specs.Reached.{marked_nodes};
 ghost use Rattle.core_graph.specs.Reading.{AreRead, IsNext, Represents};
 
 use crate::forest::Forest;
-use crate::reach::marked_node;
 use crate::vertex::Vertex;
 use c2po_ast::Plain;
 use std::alloc::{AllocError, Global};
 
-/// The vertices of all nodes, in order. For each that isn't marked it is true.
+/// The vertices of all nodes, in order.
 pub fn read(
     alloc: Global,
     forest: &mut Forest,
     nodes: &[Plain],
-    marks: &[bool],
     columns: &[u32],
 ) -> Result<Vec<usize>, AllocError>
     requires empty { forest.old ≡ [] }
-    requires count { length marks.now ≡ length nodes.now }
-    requires sound { AreSound (length columns.now) (marked_nodes marks.now nodes.now) }
-    ensures read { IfOk result (λ ids.
-        AreRead columns.now forest.new (marked_nodes marks.now nodes.now) ids.items) }
+    requires sound { AreSound (length columns.now) nodes.now }
+    ensures read { IfOk result (λ ids. AreRead columns.now forest.new nodes.now ids.items) }
 {
     let mut ids = Vec::new(alloc);
-    for i in 0..nodes.len() {
-        let node = marked_node(marks, nodes, i);
-        let id = read_node(forest, &ids, node, columns)?;
+    for node in nodes {
+        let id = read_node(forest, &ids, *node, columns)?;
         ids.push(id)?;
     }
     Ok(ids)

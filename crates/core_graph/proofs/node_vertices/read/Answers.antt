@@ -1,33 +1,29 @@
 -- One more node is read.
-use Rattle.std.proofs.Common.{◌≡◌, length, take, subst, sym, arith}
-use Rattle.core_graph.specs.Reached.{marked_nodes}
+use Rattle.std.proofs.Common.{◌≡◌, Some, false, get_or, slice_get, take, subst, sym}
+use Rattle.std.proofs.lemmas.Option.{slice_get-get_or}
+use Rattle.c2po_ast.specs.declared.nodes.Plain.{Plain}
+use Rattle.c2po_ast.specs.declared.nodes.Plain.TheVariants.{Truth}
 use Rattle.core_graph.specs.Reading.{AreRead}
-use Rattle.std.proofs.lemmas.List.{take_all}
-use Rattle.core_graph.proofs.Marking.{length-marked}
 use Rattle.core_graph.proofs.NodesRead.{one_read}
 use Rattle.core_graph.proofs.node_vertices.read.Goals as goal
 
 pub read_node-requires : goal.read_node-requires
 read_node-requires c =
-    let nodes = marked_nodes c.args.marks.now c.args.nodes.now in
+    let nodes = c.args.nodes.now in
+    let i = c.loop-node.node-index in
     record {
-      before = take c.loop-i.i nodes;
-      read = subst (AreRead c.args.columns.now c.loop-i.forest (take c.loop-i.i nodes)) (sym c.deref.ensures.value) c.loop-i.invariant;
-      formed = c.requires.sound.formed c.loop-i.i c.marked_node-node.result c.marked_node-node.ensures;
+      before = take i nodes;
+      read = subst (AreRead c.args.columns.now c.loop-node.forest (take i nodes)) (sym c.deref.ensures.value) c.loop-node.invariant;
+      formed = c.requires.sound.formed i (get_or nodes i (Truth false)) (slice_get-get_or nodes i (Truth false) c.loop-node-test.true);
     }
 
-pub loop-i-preserved : goal.loop-i-preserved
-loop-i-preserved c =
-    let nodes = marked_nodes c.args.marks.now c.args.nodes.now in
-    let formed = c.requires.sound.formed c.loop-i.i c.marked_node-node.result c.marked_node-node.ensures in
-    one_read c.args.columns.now c.loop-i.forest c.read_node.new.forest nodes c.loop-i.i c.marked_node-node.result c.loop-i.ids.items c.push.new.self.items c.in_ok-id.id
-    c.marked_node-node.ensures c.loop-i.invariant c.in_ok-id.ensures.grows
-    (c.in_ok-id.ensures.stands (take c.loop-i.i nodes) (subst (AreRead c.args.columns.now c.loop-i.forest (take c.loop-i.i nodes)) (sym c.deref.ensures.value) c.loop-i.invariant) formed) c.in_ok-push.ensures.items
-
-pub returns : goal.returns
-returns c =
-    let nodes = marked_nodes c.args.marks.now c.args.nodes.now in
-    let size : length nodes ≡ length c.args.nodes.now = length-marked c.args.marks.now c.args.nodes.now c.requires.count in
-    record {
-      read = subst (λ ns. AreRead c.args.columns.now c.loop-i.forest ns c.loop-i.ids.items) (take_all c.loop-i.i nodes (omega (arith, c.loop-i-test.false, size))) c.loop-i.invariant;
-    }
+pub loop-node-preserved : goal.loop-node-preserved
+loop-node-preserved c =
+    let nodes = c.args.nodes.now in
+    let i = c.loop-node.node-index in
+    let node : Plain = get_or nodes i (Truth false) in
+    let there : slice_get nodes i ≡ Some node = slice_get-get_or nodes i (Truth false) c.loop-node-test.true in
+    let before = subst (AreRead c.args.columns.now c.loop-node.forest (take i nodes)) (sym c.deref.ensures.value) c.loop-node.invariant in
+    one_read c.args.columns.now c.loop-node.forest c.read_node.new.forest nodes i node c.loop-node.ids.items c.push.new.self.items c.in_ok-id.id
+    there c.loop-node.invariant c.in_ok-id.ensures.grows
+    (c.in_ok-id.ensures.stands (take i nodes) before (c.requires.sound.formed i node there)) c.in_ok-push.ensures.items
