@@ -1,11 +1,10 @@
 -- Lists of vertices: those of a part in order, and their places.
 
 use Rattle.std.proofs.Common.{◌≡◌, ◌≢◌, ℕ, ◌+◌, ◌<◌, Bool, true, false, not, if◌then◌else◌, Some, List, [], ◌∷◌, ◌++◌, All, filter, length, map, take, drop, get_or, set, slice_get, slice_index, refl, sym, subst, ap, ◌∙◌, append-nil, arith, inl, inr}
-use Rattle.std.proofs.lemmas.List.{length-take-le, length-map, map-append, take_more, take-append-drop, get_or-set_same, get_or-set_other}
+use Rattle.std.proofs.lemmas.List.{length-take-le, map-append, take_more, take-append-drop, get_or-set_same, get_or-set_other}
 use Rattle.std.proofs.lemmas.List.Elements.{filter-append}
 use Rattle.std.proofs.lemmas.Option.{slice_get-map, slice_get-get_or, slice_get_within, get_or_from_slice_get}
 use Rattle.std.specs.Option.{option_map}
-use mir.Val.{bool_byte}
 use Rattle.mltl_base.specs.declared.interval.Part.{Part}
 use Rattle.mltl_base.specs.declared.interval.Part.TheVariants.{Bz, Ft, Pt}
 use Rattle.mltl_base.proofs.Unfolding.{Each, each_from_all}
@@ -16,10 +15,9 @@ use Rattle.core_graph.specs.declared.vertex.Operands.TheVariants.{Zero, One, Two
 use Rattle.core_graph.specs.Trees.{Label, LabelTree, root, completed, is_core_label, is_core_tree}
 use Rattle.core_graph.specs.Vertices.{label_of, operands_of, tree_over, tree_at, trees, IsForest}
 use Rattle.core_graph.specs.Walks.{trees_of}
-use Rattle.core_graph.specs.Listings.{is_in, is_vertex_in, count_in, AreOnce}
+use Rattle.core_graph.specs.Listings.{is_in, is_vertex_in, AreOnce}
 use Rattle.core_graph.proofs.Forests.{tree_here}
-use Rattle.core_graph.proofs.Orders.{AreDistinct, completed_distinct, count_push, distinct_place}
-use Rattle.core_graph.proofs.Walking.{trees_push}
+use Rattle.core_graph.proofs.Orders.{AreDistinct, completed_distinct, distinct_place}
 use Rattle.mltl_base.proofs.Members.{all_from_each}
 
 -- a vertex is of the part of its tree
@@ -38,16 +36,6 @@ vertex_part part vertices n vertex f e = go part
     go Bz = ap not same
     go Ft = same
     go Pt = same
-
--- one more vertex counts if it is of the part
-pub counted_push : (part : Part) (vertices : List Vertex) (order new : List ℕ) (top : ℕ) (vertex : Vertex) (count more : ℕ) → IsForest vertices → slice_get vertices top ≡ Some vertex → new ≡ order ++ top ∷ [] →
-    count ≡ count_in part (trees_of vertices order) → more ≡ bool_byte (is_vertex_in part vertex) → count + more ≡ count_in part (trees_of vertices new)
-counted_push part vertices order new top vertex count more f e p h g =
-    let one_more : count_in part (trees_of vertices order) + bool_byte (is_in part (tree_at (trees vertices) top)) ≡ count_in part (trees_of vertices order ++ tree_at (trees vertices) top ∷ [])
-    = count_push (is_in part) (tree_at (trees vertices) top) (trees_of vertices order) in
-    ap (λ n. n + more) h
-    ∙ (ap (λ n. count_in part (trees_of vertices order) + n) (g ∙ ap bool_byte (vertex_part part vertices top vertex f e))
-    ∙ (one_more ∙ ap (count_in part) (sym (ap (trees_of vertices) p ∙ trees_push vertices order top))))
 
 -- one more member of a list
 pub map_more : {X Y : Type 0} (f : X → Y) (xs : List X) (i : ℕ) (x : X) → i < length xs → get_or xs i x ≡ x → map f (take (i + 1) xs) ≡ map f (take i xs) ++ f x ∷ []
@@ -97,10 +85,6 @@ pub part_trees : (vertices : List Vertex) (part : Part) (roots order ids : List 
     trees_of vertices ids ≡ filter (is_in part) (completed (trees_of vertices roots))
 part_trees vertices part roots order ids h e =
     ap (trees_of vertices) e ∙ (map_filter (is_in part) (tree_at (trees vertices)) order ∙ ap (filter (is_in part)) h)
-
-pub part_size : (vertices : List Vertex) (part : Part) (order ids : List ℕ) → ids ≡ filter (λ n. is_in part (tree_at (trees vertices) n)) order → length ids ≡ count_in part (trees_of vertices order)
-part_size vertices part order ids e =
-    sym (length-map ids (tree_at (trees vertices))) ∙ ap length (ap (trees_of vertices) e ∙ map_filter (is_in part) (tree_at (trees vertices)) order)
 
 tree_there : (vertices : List Vertex) (ids : List ℕ) (i n : ℕ) → slice_get ids i ≡ Some n → slice_get (trees_of vertices ids) i ≡ Some (tree_at (trees vertices) n)
 tree_there vertices ids i n e = slice_get-map (tree_at (trees vertices)) ids i ∙ ap (option_map (tree_at (trees vertices))) e

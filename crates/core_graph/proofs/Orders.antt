@@ -1,16 +1,12 @@
 -- Lists that a walk completes: what is listed stays, operands are listed, and what is listed already adds nothing.
 
 use Rattle.std.specs.Prelude.{⊤}
-use Rattle.std.proofs.Common.{◌≡◌, ℕ, zero, suc, ◌+◌, ◌≤◌, Bool, true, false, ◌||◌, if◌then◌else◌, Some, List, [], ◌∷◌, ◌++◌, fold, filter, length, map, take, slice_get, refl, sym, subst, ap, ◌∙◌, arith}
+use Rattle.std.proofs.Common.{◌≡◌, ℕ, zero, suc, ◌+◌, Bool, true, false, ◌||◌, if◌then◌else◌, Some, List, [], ◌∷◌, ◌++◌, fold, filter, slice_get, refl, sym, subst, ap, ◌∙◌}
 use Rattle.std.proofs.lemmas.Bool.{true≢false, false≢true, or_parts, or_right}
-use Rattle.std.proofs.lemmas.List.{length-append}
-use Rattle.std.proofs.lemmas.List.Elements.{filter-append}
-use Rattle.std.proofs.lemmas.Option.{same_Some}
-use mir.Val.{bool_byte}
 use Rattle.mltl_base.specs.Subformulas.{listed, add_new}
 use Rattle.mltl_base.proofs.Listing.{added_has, added_keeps, listed_append}
 use Rattle.core_graph.specs.Trees.{Label, LabelTree, leaf, one, two, same_tree, add_tree, completed}
-use Rattle.core_graph.specs.Walks.{HasOperands, HasItsOperands, finish}
+use Rattle.core_graph.specs.Walks.{HasOperands, HasItsOperands}
 use Rattle.core_graph.proofs.Sameness.{same_tree_sound, same_tree_self}
 
 pub new_keeps : (t u : LabelTree) (ts : List LabelTree) → listed same_tree u ts ≡ true → listed same_tree u (add_new same_tree t ts) ≡ true
@@ -128,55 +124,6 @@ fold_closed (t ∷ roots) ts c = fold_closed roots (add_tree t ts) (tree_closed 
 
 pub completed_closed : (roots : List LabelTree) → HasItsOperands (completed roots)
 completed_closed roots = fold_closed roots [] closed_nil
-
--- what is completed stays, so a part only grows
-append_grows : (part : LabelTree → Bool) (ts us : List LabelTree) → length (filter part ts) ≤ length (filter part (ts ++ us))
-append_grows part ts us =
-    let size : length (filter part (ts ++ us)) ≡ length (filter part ts) + length (filter part us)
-    = ap length (filter-append part ts us) ∙ length-append (filter part ts) (filter part us) in
-    omega arith
-
-new_grows : (part : LabelTree → Bool) (t : LabelTree) (ts us : List LabelTree) → length (filter part us) ≤ length (filter part ts) → length (filter part us) ≤ length (filter part (add_new same_tree t ts))
-new_grows part t ts us h = go (listed same_tree t ts)
-  where
-    go : (b : Bool) → length (filter part us) ≤ length (filter part (if b then ts else ts ++ t ∷ []))
-    go true = h
-    go false = let more : length (filter part ts) ≤ length (filter part (ts ++ t ∷ [])) = append_grows part ts (t ∷ []) in omega arith
-
-tree_grows : (part : LabelTree → Bool) (t : LabelTree) (ts us : List LabelTree) → length (filter part us) ≤ length (filter part ts) → length (filter part us) ≤ length (filter part (add_tree t ts))
-unfolding add_tree
-tree_grows part (leaf l) ts us h = new_grows part (leaf l) ts us h
-tree_grows part (one l t) ts us h = new_grows part (one l t) _ us (tree_grows part t ts us h)
-tree_grows part (two l t v) ts us h = new_grows part (two l t v) _ us (tree_grows part v _ us (tree_grows part t ts us h))
-
-pub finish_grows : (part : LabelTree → Bool) (waiting ts : List LabelTree) → length (filter part ts) ≤ length (filter part (finish waiting ts))
-unfolding finish
-finish_grows part [] ts = omega arith
-finish_grows part (t ∷ waiting) ts = tree_grows part t (finish waiting ts) ts (finish_grows part waiting ts)
-
-fold_grows : (part : LabelTree → Bool) (roots ts us : List LabelTree) → length (filter part us) ≤ length (filter part ts) → length (filter part us) ≤ length (filter part (fold (λ vs t. add_tree t vs) ts roots))
-fold_grows part [] ts us h = h
-fold_grows part (t ∷ roots) ts us h = fold_grows part roots (add_tree t ts) us (tree_grows part t ts us h)
-
-pub root_grows : (part : LabelTree → Bool) (f : ℕ → LabelTree) (roots : List ℕ) (ts : List LabelTree) (i root : ℕ) → slice_get roots i ≡ Some root →
-    length (filter part (add_tree (f root) (fold (λ us t. add_tree t us) ts (map f (take i roots))))) ≤ length (filter part (fold (λ us t. add_tree t us) ts (map f roots)))
-root_grows part f [] ts i root e = cc
-root_grows part f (n ∷ roots) ts zero root e =
-    let same : n ≡ root = same_Some n root e in
-    subst (λ m. length (filter part (add_tree (f m) ts)) ≤ length (filter part (fold (λ us t. add_tree t us) (add_tree (f n) ts) (map f roots)))) same
-    (fold_grows part (map f roots) (add_tree (f n) ts) (add_tree (f n) ts) (omega arith))
-root_grows part f (n ∷ roots) ts (suc i) root e = root_grows part f roots (add_tree (f n) ts) i root e
-
--- one more tree counts if it is of the part
-pub count_push : (part : LabelTree → Bool) (t : LabelTree) (ts : List LabelTree) → length (filter part ts) + bool_byte (part t) ≡ length (filter part (ts ++ t ∷ []))
-count_push part t ts =
-    let size : length (filter part (ts ++ t ∷ [])) ≡ length (filter part ts) + length (filter part (t ∷ []))
-    = ap length (filter-append part ts (t ∷ [])) ∙ length-append (filter part ts) (filter part (t ∷ [])) in
-    ap (λ n. length (filter part ts) + n) (alone (part t)) ∙ sym size
-  where
-    alone : (b : Bool) → bool_byte b ≡ length (if b then t ∷ [] else [])
-    alone true = refl
-    alone false = refl
 
 -- no tree stands twice
 abbrev pub AreDistinct : List LabelTree → Type 0

@@ -5,4 +5,3 @@ pub mod Images
 pub mod Walks
 pub mod Reading
 pub mod Listings
-pub mod CountedWalks

@@ -43,10 +43,6 @@ is_vertex_in Bz vertex = not (is_formula vertex)
 is_vertex_in Ft vertex = is_formula vertex
 is_vertex_in Pt vertex = is_formula vertex
 
--- how many of the trees become instructions of the part
-abbrev pub count_in : Part → List LabelTree → ℕ
-count_in part ts = length (filter (is_in part) ts)
-
 -- the output names the first n nodes
 abbrev pub NamesNodes : ℕ → PlainOut → Type 0
 NamesNodes n (Formula e a name) = a < n

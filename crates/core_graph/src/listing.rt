@@ -10,6 +10,7 @@ use crate::graph::GraphFault;
 use crate::vertex::Vertex;
 use crate::walk::completion;
 use c2po_ast::PlainOut;
+use mltl_base::limits::MAX_INSTRUCTIONS;
 use mltl_base::{Engine, Part};
 use std::alloc::{AllocError, Global};
 
@@ -101,8 +102,11 @@ pub fn list(
         → MAX_INSTRUCTIONS < length (listed_trees forest.now part ids.now outs.now) }
 {
     let roots = roots(alloc, outs, ids, part)?;
-    let order = completion(alloc, forest, &roots, part)?;
+    let order = completion(alloc, forest, &roots)?;
     let listed = select(alloc, forest, &order, part)?;
+    if listed.len() > MAX_INSTRUCTIONS as usize {
+        return Err(GraphFault::TooManyNodes);
+    }
     let places = places(alloc, &listed, forest.len())?;
     Ok(Listing {
         ids: listed,

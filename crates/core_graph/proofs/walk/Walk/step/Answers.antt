@@ -1,10 +1,8 @@
 -- Each goal is a lemma on steps, at what the code has read and written.
 use Rattle.std.proofs.Common.{◌≡◌, vec_len, ◌<◌, List, ℕ, Bool, length, set, true, refl, subst, ap, sym, ◌∙◌, arith}
-use mir.Val.{bool_byte}
 use Rattle.core_graph.specs.declared.vertex.Operands.{Operands}
 use Rattle.core_graph.specs.Vertices.{OperandsAreBelow, operands_of}
 use Rattle.core_graph.specs.Walks.{AreDone, IsFirstIncomplete, IsStack, trees_of, finish, work}
-use Rattle.core_graph.proofs.Lists.{counted_push}
 use Rattle.core_graph.proofs.Walking.{IsAt, below_length, popped, top_inside, operand_stack, operand_goal, operand_less, complete_walk, complete_stack, complete_goal, complete_less}
 use Rattle.core_graph.proofs.walk.Walk.step.Goals as goal
 use Rattle.core_graph.proofs.walk.Walk.step.Goals.{In_ok-push-in-Some, After-pop}
@@ -15,18 +13,18 @@ get-vertex-requires c = top_inside c.args.forest.now c.args.self.now.done.items 
 pub first_open-requires : goal.first_open-requires
 first_open-requires c =
     let inside : c.args.top < length c.args.forest.now = top_inside c.args.forest.now c.args.self.now.done.items c.args.stack.now.items c.requires.top.0 c.args.top c.requires.stack c.requires.top.1 in
-    let below : OperandsAreBelow c.args.top (operands_of c.get-vertex.result) = c.requires.walk.forest.over c.args.top c.get-vertex.result c.get-vertex.ensures in
-    let size : length c.deref.result.now ≡ length c.args.forest.now = ap length c.deref.ensures.value ∙ c.requires.walk.walked.count in
+    let below : OperandsAreBelow c.args.top (operands_of c.get-vertex.result) = c.requires.forest.over c.args.top c.get-vertex.result c.get-vertex.ensures in
+    let size : length c.deref.result.now ≡ length c.args.forest.now = ap length c.deref.ensures.value ∙ c.requires.walk.count in
     subst (λ (o : Operands). OperandsAreBelow (length c.deref.result.now) o) (sym c.operands.ensures)
     (subst (λ (n : ℕ). OperandsAreBelow n (operands_of c.get-vertex.result)) (sym size) (below_length c.args.top (length c.args.forest.now) (operands_of c.get-vertex.result) inside below))
 
 pub index_mut-requires : goal.index_mut-requires
 index_mut-requires c =
     let inside : c.args.top < length c.args.forest.now = top_inside c.args.forest.now c.args.self.now.done.items c.args.stack.now.items c.requires.top.0 c.args.top c.requires.stack c.requires.top.1 in
-    omega (arith, c.requires.walk.walked.count)
+    omega (arith, c.requires.walk.count)
 
 at_some : (c : In_ok-push-in-Some) → IsAt c.args.forest.now c.args.self.now.order.items c.args.self.now.done.items c.args.stack.now.items c.args.top c.get-vertex.result c.requires.top.0
-at_some c = record { forest = c.requires.walk.forest; walk = c.requires.walk.walked; waiting = c.requires.stack; latest = c.requires.top.1; there = c.get-vertex.ensures }
+at_some c = record { forest = c.requires.forest; walk = c.requires.walk; waiting = c.requires.stack; latest = c.requires.top.1; there = c.get-vertex.ensures }
 
 first : (c : In_ok-push-in-Some) → IsFirstIncomplete c.args.self.now.done.items (operands_of c.get-vertex.result) c.in-Some.operand
 first c =
@@ -49,7 +47,7 @@ returns-in_ok-push-in-Some-clause-less c =
     c.in-Some.operand c.push.new.self.items (at_some c) (first c) c.in_ok-push-in-Some.ensures.items
 
 at_none : (c : After-pop) → IsAt c.args.forest.now c.args.self.now.order.items c.args.self.now.done.items c.args.stack.now.items c.args.top c.get-vertex.result c.requires.top.0
-at_none c = record { forest = c.requires.walk.forest; walk = c.requires.walk.walked; waiting = c.requires.stack; latest = c.requires.top.1; there = c.get-vertex.ensures }
+at_none c = record { forest = c.requires.forest; walk = c.requires.walk; waiting = c.requires.stack; latest = c.requires.top.1; there = c.get-vertex.ensures }
 
 all_done : (c : After-pop) → AreDone c.args.self.now.done.items (operands_of c.get-vertex.result)
 all_done c =
@@ -60,13 +58,9 @@ rest : (c : After-pop) → c.requires.top.0 ≡ c.pop.new.self.items
 rest c = popped c.args.stack.now.items c.requires.top.0 c.pop.new.self.items c.args.top (vec_len c.args.stack.now) c.requires.top.1 (omega arith) c.pop.ensures.rest
 
 pub returns-in_ok-push-in-None-clause-walk : goal.returns-in_ok-push-in-None-clause-walk
-returns-in_ok-push-in-None-clause-walk c = record {
-  forest = c.requires.walk.forest;
-  walked = complete_walk c.args.forest.now c.args.self.now.order.items c.args.self.now.done.items c.args.stack.now.items c.args.top c.get-vertex.result c.requires.top.0
-      c.push-in-None.new.self.items (set c.args.self.now.done.items c.args.top true) (at_none c) (all_done c) c.in_ok-push-in-None.ensures.items refl;
-  counted = counted_push c.args.part c.args.forest.now c.args.self.now.order.items c.push-in-None.new.self.items c.args.top c.get-vertex.result c.args.self.now.count c.from.result
-      c.requires.walk.forest c.get-vertex.ensures c.in_ok-push-in-None.ensures.items c.requires.walk.counted (c.from.ensures ∙ ap bool_byte c.is_in.ensures);
-}
+returns-in_ok-push-in-None-clause-walk c =
+    complete_walk c.args.forest.now c.args.self.now.order.items c.args.self.now.done.items c.args.stack.now.items c.args.top c.get-vertex.result c.requires.top.0
+    c.push-in-None.new.self.items (set c.args.self.now.done.items c.args.top true) (at_none c) (all_done c) c.in_ok-push-in-None.ensures.items refl
 
 pub returns-in_ok-push-in-None-clause-stack : goal.returns-in_ok-push-in-None-clause-stack
 returns-in_ok-push-in-None-clause-stack c =
