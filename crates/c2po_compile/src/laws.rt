@@ -17,7 +17,7 @@ ghost use Rattle.c2po_compile.specs.declared.fault.CompileFault.{CompileFault as
 
 /// A text that isn't refused says the items of `items_in` and no others by the rules of the
 /// grammar. The first refusal of a text is by one of these rules.
-#[tactic(auto, using(crate::proofs::ByRules::alone, crate::proofs::ByRules::refused_by, crate::proofs::ByRules::says))]
+#[tactic(auto, using(crate::proofs::ByRules::refused_by, crate::proofs::ByRules::says))]
 pub fn texts_say_what_rules_say()
     ensures says { (text : Seq ℕ) → first_refusal text ≡ None → Says text (items_in text) }
     ensures alone { (text : Seq ℕ) (items : Seq ItemShape) → Says text items →
