@@ -31,6 +31,7 @@ CHANGES = [
     ("examples/grant.csv", "0,1", "1,1", "examples/grant.csv: no case has this trace"),
     ("examples/grant.c2po", "F[0,3]", "F[0,4]", "examples/grant.c2po: no case has this specification"),
     ("crates/c2po_compile/src/fault.rt", '"mixed tense"', '"mixed times"', "no entry shows mixed times"),
+    ("crates/scq_ring/src/lib.rt", "a ring of merged runs", "a ring of runs", "docs/contributing/house.md: scq_ring is left out"),
     ("crates/c2po_lexer/src/token.rt", 'b"<->"', 'b"<-->"', "docs/reference/language.md: no entry for <-->"),
 ]
 
