@@ -13,7 +13,7 @@ abbrev pub why_none : Ranged → Option NoRange
 why_none (Ok r) = None
 why_none (Err why) = Some why
 
--- the left fault, or the right one if there is no left fault
+-- the left fault, or the right fault if there is no left fault
 abbrev pub or_later : Option NoRange → Option NoRange → Option NoRange
 or_later (Some why) later = Some why
 or_later None later = later

@@ -39,7 +39,7 @@ pub enum Refusal {
     Field,
     /// An interval or the number of a quantifier is out of bounds.
     Bounds,
-    /// The signals are more than the limit.
+    /// There are more signals than the limit.
     Signals,
     /// A value unfolds to more than the limit.
     Wide,
@@ -49,11 +49,11 @@ pub enum Refusal {
     Range,
     /// An output has an operator of the other tense than its section.
     Tense,
-    /// The instructions are more than the limit.
+    /// There are more instructions than the limit.
     TooManyNodes,
     /// A worst-case delay is above the limit.
     TooLate,
-    /// The slots of queues and the boxes are more than the limit.
+    /// There are more queue slots and boxes than the limit.
     TooManySlots,
 }
 

@@ -20,8 +20,8 @@ use obs_verify::Checked;
 use set_expand::expand;
 use std::alloc::Global;
 
-/// Returns the simplified program if it has no more slots and boxes than the plain one, else the
-/// plain one.
+/// Returns the simplified program if it has no more slots and boxes than the plain program, else
+/// the plain program.
 fn smaller(simple: Checked, plain: Checked) -> Checked
     requires simple { slots_in simple < 2 ^ 64 }
     requires plain { slots_in plain < 2 ^ 64 }

@@ -94,7 +94,8 @@ abbrev pub at_operators : ReadsLevel → ℕ → List Token → Option Cut → O
 at_operators read level ts None = read (suc level) ts
 at_operators read level ts (Some c) = operator_at c.1 >>= λ o. sides read level c.0 o
 
--- the tree of an expression at a level of prefixes, with a leading prefix of the level, or read at the next level
+-- the tree of an expression at a level of prefixes: a leading prefix of the level with its operand, else the expression at
+-- the next level
 abbrev pub at_prefixes : ReadsLevel → ℕ → List Token → Option (Start × List Token) → Option Shape
 at_prefixes read level ts (Some (Before p, rest)) =
     if nat_eq (prefix_level p) level then (read level rest >>= λ e. Some (prefixed p e)) else read (suc level) ts

@@ -129,7 +129,7 @@ fn read_pieces(alloc: Global, tokens: &Tokens) -> Result<SpecTree, ParseFault>
 /// no tree, each with the line of the item's first token, or of its `;` if it has no token;
 /// `Memory` when out of memory.
 pub fn parse(alloc: Global, tokens: &Tokens) -> Result<SpecTree, ParseFault>
-    // These are the trees that the grammar gives, and the only ones.
+    // The grammar gives these trees, and no others.
     ensures tree { IfOk result (λ tree. IsSpecification tokens.now (spec_shape tree)) }
     ensures unique { IfOk result (λ tree. (items : Seq ItemShape) →
         IsSpecification tokens.now items → items ≡ spec_shape tree) }

@@ -24,7 +24,7 @@ abbrev pub in_turn : {X S : Type 0} → (X → S → Checked S) → List X → S
 in_turn step [] s = Ok s
 in_turn step (x ∷ xs) s = step x s >>= in_turn step xs
 
--- The fault is the one that the definition finds, unless it is out of memory.
+-- The fault is the fault that the definition finds, unless it is out of memory.
 abbrev pub Fails : {Y : Type 0} → TypeFault → Checked Y → Type 0
 Fails Memory found = ⊤
 Fails fault found = found ≡ Err fault

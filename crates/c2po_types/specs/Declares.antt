@@ -20,7 +20,7 @@ use Rattle.c2po_types.specs.Outputs.{place_by}
 use Rattle.c2po_types.specs.Weights.{weight}
 use Rattle.c2po_types.specs.Environment.{Env, value_of}
 
--- the results for the members of a list in order, where f sees the members before each, the last one first
+-- the results for the members of a list in order; f sees the members before each, the last one first
 abbrev pub after_others : {X Y : Type 0} → (List X → X → List Y) → List X → List Y
 after_others f [] = []
 after_others f (x ∷ xs) = f [] x ++ after_others (λ before. f (x ∷ before)) xs

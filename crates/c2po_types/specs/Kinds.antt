@@ -97,8 +97,7 @@ abbrev pub set_unless : Kind → Option ℕ → Checked Kind
 set_unless k None = Ok (set_kind k)
 set_unless k (Some line) = Err (fault.Kind line)
 
--- the kind of a set of elements, which must have one kind; the fault is at the first element whose kind isn't the first
--- one's
+-- the kind of a set of elements of one kind; the fault is at the first element that has another kind than the first element
 abbrev pub set_of_elements : ℕ → List Placed → Checked Kind
 set_of_elements line [] = Err (fault.Kind line)
 set_of_elements line (p ∷ ps) = set_unless p.1 (other_line p.1 ps)

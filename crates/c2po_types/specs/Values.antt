@@ -29,8 +29,8 @@ mutual
     none : Values
     more : Value → Values → Values
 
-  -- an integer or a formula: a number, a Boolean, a signal of kind bool or int, an operator over one value or over two,
-  -- or the bodies of a quantifier, joined by an operator or counted
+  -- an integer or a formula: a number, a Boolean, a Boolean or an integer signal, an operator over one value or over two, or
+  -- the bodies of a quantifier, joined by an operator or counted
   pub data Leaf : Type 0 where
     integer : ℤ → Leaf
     boolean : Bool → Leaf

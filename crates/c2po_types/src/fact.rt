@@ -180,7 +180,7 @@ fn why_none_of(range: Result<Range, NoRange>) -> Option<NoRange>
     range.err()
 }
 
-/// Returns the left fault, or the right one if there is no left fault.
+/// Returns the left fault, or the right fault if there is no left fault.
 pub fn first_fault(left: Option<NoRange>, right: Option<NoRange>) -> Option<NoRange>
     ensures { told_fault result ≡ or_later (told_fault left) (told_fault right) }
 {

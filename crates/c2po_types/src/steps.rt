@@ -44,7 +44,7 @@ fn no_range(line: u32, why: NoRange) -> TypeFault
     }
 }
 
-/// Returns `true` if these tenses include the one that the engine doesn't have.
+/// Returns `true` if these tenses include the other tense than the engine's.
 fn is_mixed(engine: Engine, tenses: Tenses) -> bool
     ensures { result ≡ other_tense engine (with_past tenses) (with_future tenses) }
 {

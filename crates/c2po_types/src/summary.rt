@@ -111,7 +111,7 @@ fn binary_fact(op: BinaryOp, a: &Fact, b: &Fact) -> Fact
     }
 }
 
-/// Returns the fact of a signal of kind bool or int, whatever its number.
+/// Returns the fact of a Boolean or an integer signal, whatever its number.
 pub(crate) fn signal_fact(truth: bool) -> Fact
     ensures { (n : ℕ) → Tells result (tree_in (signal_value truth n)) }
 {

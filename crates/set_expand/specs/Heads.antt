@@ -59,7 +59,7 @@ head_value names (head.Set scope es) = grouped (values_of (shapes es.now) (env_i
 head_value names (head.Leaf scope e) = value_of (shape e.now) (env_in names scope)
 head_value names (head.Kept made scope e) = value_of (shape e.now) (env_in names scope)
 
--- an expression at a head is a number, a Boolean, an operator or a quantifier
+-- if the head is an expression, it is a number, a Boolean, an operator or a quantifier
 abbrev pub IsHead : Head → Type 0
 IsHead (head.Leaf scope e) = is_operator (shape e.now) ≡ true
 IsHead (head.Kept made scope e) = is_operator (shape e.now) ≡ true

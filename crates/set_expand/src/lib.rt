@@ -6,7 +6,8 @@
 //! nodes that use them.
 //!
 //! ```text
-//! let spec = check(alloc, &parse(alloc, &lex(alloc, b"INPUT p: bool; FTSPEC foreach(v: {p, !p})(v);")?)?)?;
+//! let tokens = lex(alloc, b"INPUT p: bool; FTSPEC foreach(v: {p, !p})(v);")?;
+//! let spec = check(alloc, &parse(alloc, &tokens)?)?;
 //! let expanded = expand(alloc, &spec)?; // one output, named 0, whose node is p && !p
 //! ```
 #![tactic(auto)]

@@ -81,7 +81,7 @@ token_ends (what.Reserved k) b = not (is_in_word b)
 token_ends (what.Number n) b = not (is_ascii_digit b)
 token_ends (what.Sign s) b = ends_before s b
 
--- the token ends where the text after it begins, and there is such a text
+-- the token ends before the first byte of the text after it, which isn't empty
 abbrev pub Ends : What → List ℕ → Type 0
 Ends w [] = ⊥
 Ends w (b ∷ bytes) = token_ends w b ≡ true
