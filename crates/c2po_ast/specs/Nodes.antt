@@ -1,5 +1,5 @@
--- Nodes of plain formulas: the integers and formulas that they unfold to, and sound lists of nodes. A reader of the
--- contracts needs this file.
+-- Nodes of plain formulas: the integers and formulas that they unfold to, and sound lists of nodes.
+-- A reader of the contracts needs this file.
 
 use Rattle.std.specs.Prelude.{◌≡◌, ℕ, ◌<◌, ◌≤◌, pos, Bool, true, false, Option, Some, None, List, [], ◌∷◌, ◌++◌, take}
 use Rattle.std.specs.Prelude.{fold, slice_get, ⊤}

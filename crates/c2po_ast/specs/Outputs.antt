@@ -1,4 +1,5 @@
--- The outputs of an unfolded specification, and sound unfolded specifications. A reader of the contracts needs this file.
+-- The outputs of an unfolded specification, and sound unfolded specifications.
+-- A reader of the contracts needs this file.
 
 use Rattle.std.specs.Prelude.{ℕ, ◌<◌, ◌^◌, List, length, map, slice_get, All}
 use Rattle.mltl_base.specs.Formula.{formula_over}

@@ -1,4 +1,5 @@
--- The numbers of integer expressions without signals. A reader of the contracts needs this file.
+-- The numbers of integer expressions without signals.
+-- A reader of the contracts needs this file.
 
 use Rattle.std.specs.Prelude.{◌≡◌, ◌≢◌, ℤ, pos, neg_ℤ, ◌+ℤ◌, ◌-ℤ◌, ◌*ℤ◌, int_div, int_rem, int_lt, int_le, Bool, not}
 use Rattle.std.specs.Prelude.{FitsSigned, if◌then◌else◌, Option, Some, None, [], ⊤}

@@ -1,5 +1,5 @@
--- Simplified formulas: operands are simplified first, then the first rule that fits the operator is applied once. A reader
--- of the contracts needs this file.
+-- Simplified formulas: operands are simplified first, then the first rule that fits the operator is applied once.
+-- A reader of the contracts needs this file.
 
 use Rattle.std.specs.Prelude.{◌+◌, nat_le, Bool, true, false, ◌||◌, if◌then◌else◌, Option, Some, None, []}
 use Rattle.mltl_base.specs.declared.interval.Interval.{Interval}
