@@ -1,4 +1,4 @@
--- Whole-number expressions and atoms, and what they are on one row.
+-- Whole-number expressions and atoms, and their values on one row.
 -- A reader of the contracts needs this file.
 
 use Rattle.std.specs.Prelude.{ℕ, ℤ, pos, neg_ℤ, ◌+ℤ◌, ◌-ℤ◌, ◌*ℤ◌, int_div, int_rem, int_lt, int_le, Bool, not, List}
@@ -30,7 +30,7 @@ pub data Atom : Type 0 where
   greater : Term → Term → Atom
   at_least : Term → Term → Atom
 
--- the integer in a column of a row; 0 where the row has no such column
+-- the integer in a column of a row; 0 if the row has no such column
 abbrev pub in_column : Row → ℕ → ℤ
 in_column row c = slice_index_or row c (pos 0)
 
@@ -45,7 +45,7 @@ value (times a b) row = value a row *ℤ value b row
 value (quotient a b) row = int_div (value a row) (value b row)
 value (remainder a b) row = int_rem (value a row) (value b row)
 
--- whether an atom holds on a row
+-- true if the atom holds on the row
 unfoldable pub holds : Atom → Row → Bool
 holds (is_true c) row = int_eq (in_column row c) (pos 1)
 holds (equal a b) row = int_eq (value a row) (value b row)

@@ -4,10 +4,10 @@
 use Rattle.std.specs.Prelude.{ℕ, Bool, ◌==◌, ◌||◌, List}
 use Rattle.std.specs.List.{list_all}
 
--- a space or a tab
+-- true if the byte is a space or a tab
 abbrev pub is_blank : ℕ → Bool
 is_blank byte = (byte == 32) || (byte == 9)
 
--- a line of nothing else
+-- true if the line has nothing but blanks
 abbrev pub is_blank_line : List ℕ → Bool
 is_blank_line line = list_all is_blank line

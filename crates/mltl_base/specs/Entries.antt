@@ -1,4 +1,4 @@
--- How a table keeps its entries: the values in order, and the number of each name's value.
+-- The entries of a table: the values in order, and the number of each name's value.
 
 use Rattle.std.specs.Prelude.{◌≡◌, ℕ, ◌+◌, ◌<◌, ◌==◌, List, [], ◌∷◌, Option, Some, None, if◌then◌else◌, length, ⊤}
 use Rattle.std.specs.Map.{lookup}
@@ -6,17 +6,17 @@ use Rattle.std.specs.Str.{bytes_eq}
 use Rattle.std.specs.declared.vec.Vec.{Vec}
 use Rattle.mltl_base.specs.Tables.{Table}
 
--- the name that has a number
+-- the name with the number n
 abbrev pub entry_name : {A : Type 0} → ℕ → List (Vec ℕ A × ℕ) → List ℕ
 entry_name n [] = []
 entry_name n (e ∷ numbers) = if e.1 == n then e.0.items else entry_name n numbers
 
--- the values with their names, the first of which has number n
+-- the values with their names; the first value has number n
 abbrev pub entries_from : {A V : Type 0} → ℕ → List (Vec ℕ A × ℕ) → List V → Table V
 entries_from n numbers [] = []
 entries_from n numbers (v ∷ values) = (entry_name n numbers, v) ∷ entries_from (n + 1) numbers values
 
--- the number of a name's entry, where the first entry has number n
+-- the number of a name's entry, if the first entry has number n
 abbrev pub entry_number : {V : Type 0} → List ℕ → ℕ → Table V → Option ℕ
 entry_number name n [] = None
 entry_number name n (e ∷ entries) = if bytes_eq name e.0 then Some n else entry_number name (n + 1) entries

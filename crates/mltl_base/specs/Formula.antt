@@ -1,13 +1,13 @@
 -- Formulas of Mission-time LTL, their core forms and their propagation delays.
--- Sources: Li, Vardi and Rozier (2019) for the future operators, Kempa and others (2020) for the delays. The past
--- operators are this product's own.
+-- Sources: Li, Vardi and Rozier (2019) for the future operators, Kempa and others (2020) for the delays. The past operators
+-- are specific to this product.
 -- A reader of the contracts needs this file.
 
 use Rattle.std.specs.Prelude.{ℕ, ◌+◌, min, max, List, ⊤}
 use Rattle.mltl_base.specs.declared.interval.Interval.{Interval}
 use Rattle.mltl_base.specs.Atoms.{Atom, is_true, equal, less, at_most, different, greater, at_least, atom_over}
 
--- a formula; an interval a..b goes by its ends
+-- a formula; an interval a..b is given by its ends
 pub data Formula : Type 0 where
   truth : Formula
   falsity : Formula
@@ -25,7 +25,7 @@ pub data Formula : Type 0 where
   historically : Interval → Formula → Formula
   since : Interval → Formula → Formula → Formula
 
--- this is so of each atom of the formula
+-- P holds of each atom of the formula
 abbrev pub EachAtom : (Atom → Type 0) → Formula → Type 0
 EachAtom P truth = ⊤
 EachAtom P falsity = ⊤
@@ -43,7 +43,7 @@ EachAtom P (once i p) = EachAtom P p
 EachAtom P (historically i p) = EachAtom P p
 EachAtom P (since i p q) = EachAtom P p × EachAtom P q
 
--- this is so of each interval of the formula
+-- P holds of each interval of the formula
 abbrev pub EachInterval : (Interval → Type 0) → Formula → Type 0
 EachInterval P truth = ⊤
 EachInterval P falsity = ⊤
@@ -79,12 +79,12 @@ plain (cand p q) = conjunction (plain p) (plain q)
 plain (cuntil i p q) = until i (plain p) (plain q)
 plain (csince i p q) = since i (plain p) (plain q)
 
--- the negation, where a double one is taken away
+-- the negation, without a double negation
 unfoldable pub neg : Core → Core
 neg (cnot p) = p
 neg p = cnot p
 
--- a comparison by the operators of instructions
+-- a comparison in the form that instructions have
 abbrev pub core_atom : Atom → Core
 core_atom (different a b) = cnot (catom (equal a b))
 core_atom (greater a b) = catom (less b a)
@@ -94,7 +94,7 @@ core_atom (equal a b) = catom (equal a b)
 core_atom (less a b) = catom (less a b)
 core_atom (at_most a b) = catom (at_most a b)
 
--- the core form: every operator by true, atoms, not, and, until, since
+-- the core form: every operator written with true, atoms, not, and, until, since
 unfoldable pub core : Formula → Core
 core truth = ctrue
 core falsity = cnot ctrue
@@ -112,19 +112,19 @@ core (once i p) = csince i ctrue (core p)
 core (historically i p) = neg (csince i ctrue (neg (core p)))
 core (since i p q) = csince i (core p) (core q)
 
--- a comparison that instructions have
+-- the atom is a Boolean or a comparison that instructions have
 abbrev pub IsCoreAtom : Atom → Type 0
 IsCoreAtom (different a b) = ⊥
 IsCoreAtom (greater a b) = ⊥
 IsCoreAtom (at_least a b) = ⊥
 IsCoreAtom _ = ⊤
 
--- a core formula that isn't a negation
+-- the core formula isn't a negation
 abbrev pub IsNoNegation : Core → Type 0
 IsNoNegation (cnot p) = ⊥
 IsNoNegation _ = ⊤
 
--- a core formula without a negation of a negation, and without comparisons that instructions don't have
+-- the core formula has no negation of a negation, and only comparisons that instructions have
 unfoldable pub IsReduced : Core → Type 0
 IsReduced ctrue = ⊤
 IsReduced (catom a) = IsCoreAtom a
@@ -133,7 +133,7 @@ IsReduced (cand p q) = IsReduced p × IsReduced q
 IsReduced (cuntil i p q) = IsReduced p × IsReduced q
 IsReduced (csince i p q) = IsReduced p × IsReduced q
 
--- the worst-case propagation delay, in rows: 0 of a past formula
+-- the worst-case propagation delay, in rows; 0 for a past formula
 unfoldable pub wpd : Formula → ℕ
 wpd truth = 0
 wpd falsity = 0
@@ -151,7 +151,7 @@ wpd (once i p) = wpd p
 wpd (historically i p) = wpd p
 wpd (since i p q) = max (wpd p) (wpd q)
 
--- the best-case propagation delay of a core formula, in rows: 0 of a past one
+-- the best-case propagation delay of a core formula, in rows; 0 for a past formula
 unfoldable pub bpd : Core → ℕ
 bpd ctrue = 0
 bpd (catom a) = 0

@@ -1,4 +1,4 @@
--- Which formulas read each signal by its kind, and which signals have distinct names. Contracts use this file.
+-- Formulas that read each signal by its kind, and signals with distinct names. Contracts use this file.
 
 use Rattle.std.specs.Prelude.{◌≡◌, ◌≢◌, ◌<◌, ℕ, Bool, true, false, Some, List, map, slice_get, All, ⊤}
 use Rattle.mltl_base.specs.Atoms.{Term, column, constant, negative, plus, minus, times, quotient, remainder, Atom}
@@ -7,7 +7,7 @@ use Rattle.mltl_base.specs.Formula.{Formula, EachAtom}
 use Rattle.mltl_base.specs.Subformulas.{Asked, formulas_of}
 use Rattle.mltl_base.specs.declared.signal.Signal.{Signal}
 
--- for each signal by its number, whether it is Boolean
+-- the kinds of the signals, in order: true for a Boolean
 abbrev pub kinds_of : List Signal → List Bool
 kinds_of signals = map (λ signal. signal.truth) signals
 
@@ -36,11 +36,11 @@ AtomReadsKinds kinds (at_least a b) = ReadsWholes kinds a × ReadsWholes kinds b
 abbrev pub ReadsKinds : List Bool → Formula → Type 0
 ReadsKinds kinds p = EachAtom (AtomReadsKinds kinds) p
 
--- the same of an output
+-- the formulas of the output read signals that exist, each by its kind
 abbrev pub ReadsSignals : List Bool → Asked → Type 0
 ReadsSignals kinds asked = All (ReadsKinds kinds) (formulas_of asked.output)
 
--- no two signals have one name
+-- no two signals have the same name
 abbrev pub HaveOwnNames : List Signal → Type 0
 HaveOwnNames signals =
     (i j : ℕ) (s t : Signal) → i < j → slice_get signals i ≡ Some s → slice_get signals j ≡ Some t → s.name ≢ t.name

@@ -26,7 +26,7 @@ unfoldable pub k_not : Option Bool → Option Bool
 k_not None = None
 k_not (Some v) = Some (not v)
 
--- and: false where one is false, else unknown where one is unknown
+-- and: false if one is false, else unknown if one is unknown
 unfoldable pub k_and : Option Bool → Option Bool → Option Bool
 k_and (Some true) y = y
 k_and (Some false) y = Some false
@@ -34,7 +34,7 @@ k_and None (Some false) = Some false
 k_and None (Some true) = None
 k_and None None = None
 
--- or: not (not x and not y), so true where one is true, else unknown where one is unknown
+-- or: not (not x and not y), so true if one is true, else unknown if one is unknown
 unfoldable pub k_or : Option Bool → Option Bool → Option Bool
 k_or x y = k_not (k_and (k_not x) (k_not y))
 
@@ -42,20 +42,20 @@ k_or x y = k_not (k_and (k_not x) (k_not y))
 abbrev pub k_implies : Option Bool → Option Bool → Option Bool
 k_implies x y = k_not (k_and x (k_not y))
 
--- what is known of "some i below n has f": false where there is none
+-- the known value of "some i below n has f": false if n is 0
 unfoldable pub k_some_below : ℕ → (ℕ → Option Bool) → Option Bool
 k_some_below zero f = Some false
 k_some_below (suc n) f = k_or (k_some_below n f) (f n)
 
--- what is known of "every i below n has f": true where there is none
+-- the known value of "every i below n has f": true if n is 0
 unfoldable pub k_every_below : ℕ → (ℕ → Option Bool) → Option Bool
 k_every_below zero f = Some true
 k_every_below (suc n) f = k_and (k_every_below n f) (f n)
 
--- what is known of "some i from lo on and below hi has f"
+-- the known value of "some i from lo on and below hi has f"
 abbrev pub k_some_in : ℕ → ℕ → (ℕ → Option Bool) → Option Bool
 k_some_in lo hi f = k_some_below (hi - lo) (λ k. f (lo + k))
 
--- what is known of "every i from lo on and below hi has f"
+-- the known value of "every i from lo on and below hi has f"
 abbrev pub k_every_in : ℕ → ℕ → (ℕ → Option Bool) → Option Bool
 k_every_in lo hi f = k_every_below (hi - lo) (λ k. f (lo + k))

@@ -10,7 +10,7 @@ use Rattle.mltl_base.specs.declared.report.Report.{Report}
 use Rattle.mltl_base.specs.Atoms.{Row}
 use Rattle.mltl_base.specs.Reports.{Output, reports}
 
--- how a word is written
+-- the text of a word
 abbrev pub word_text : Word → List ℕ
 word_text T = codes "T"
 word_text F = codes "F"
@@ -30,6 +30,6 @@ line names report = line_with (slice_index_or names report.out []) report
 abbrev pub lines_of_reports : List (List ℕ) → List Report → List ℕ
 lines_of_reports names told = concat (map (line names) told)
 
--- the lines that are due for rows
+-- the lines of the reports on the rows
 abbrev pub lines : Style → List (List ℕ) → List Output → List Row → List ℕ
 lines style names outs rows = lines_of_reports names (reports style outs rows)

@@ -1,4 +1,4 @@
--- What formulas mean on a list of rows: Li, Vardi and Rozier (2019) for the future operators, on traces long enough to
+-- The meaning of formulas on a list of rows: Li, Vardi and Rozier (2019) for the future operators, on traces long enough to
 -- decide them.
 -- A reader of the contracts needs this file.
 
@@ -41,6 +41,6 @@ sat rows (once i p) t = some_below (suc t) (λ m. within i (t - m) && sat rows p
 sat rows (historically i p) t = every_below (suc t) (λ m. not (within i (t - m)) || sat rows p m)
 sat rows (since i p q) t = since_at i (sat rows p) (sat rows q) t
 
--- how many of the formulas hold at time t: what a counting quantifier compares
+-- the number of the formulas that hold at time t, which a counting quantifier compares
 abbrev pub count : List Row → List Formula → ℕ → ℕ
 count rows bodies t = count_by (λ p. sat rows p t) bodies

@@ -1,7 +1,7 @@
--- What the instructions of an observer program unfold to, and the rows that fit it. Every list of instructions
--- unfolds to something: an operand without an instruction represents 0, the Boolean of column 0, or true. A
--- well-formed program has no such operand, by `well_formed_programs_are_sound` and `well_formed_programs_run` of
--- `obs_verify`. Contracts use this file.
+-- The expressions and formulas that the instructions of an observer program unfold to, and the rows that fit it. Every list
+-- of instructions unfolds: an operand without an instruction represents 0, the Boolean of column 0, or true. A well-formed
+-- program has no such operand, by `well_formed_programs_are_sound` and `well_formed_programs_run` of `obs_verify`. Contracts
+-- use this file.
 
 use Rattle.std.specs.Prelude.{ℕ, ◌≡◌, ◌⊎◌, pos, Option, Some, None, List, [], ◌∷◌, ◌++◌, length, map, slice_get}
 use Rattle.std.specs.Prelude.{slice_index_or, All, FitsSigned, ⊤}
@@ -18,28 +18,28 @@ use Rattle.mltl_base.specs.Atoms.{is_true, equal, less, at_most, in_column}
 use Rattle.mltl_base.specs.Formula.{Core, ctrue, catom, cnot, cand, cuntil, csince, plain}
 use Rattle.mltl_base.specs.Reports.{Output, formula, contract}
 
--- what an instruction of the Booleanizer represents: an integer or a Boolean
+-- the integer or the Boolean that an instruction of the Booleanizer represents
 pub data Expression : Type 0 where
   whole : Term → Expression
   truth : Atom → Expression
 
--- the integer at an index, else 0
+-- the integer that is there, else 0
 abbrev pub expression_term : Option Expression → Term
 expression_term (Some (whole e)) = e
 expression_term (Some (truth a)) = constant (pos 0)
 expression_term None = constant (pos 0)
 
--- the Boolean at an index, else that of column 0
+-- the Boolean that is there, else the Boolean of column 0
 abbrev pub atom_of : Option Expression → Atom
 atom_of (Some (truth a)) = a
 atom_of (Some (whole e)) = is_true 0
 atom_of None = is_true 0
 
--- the integer of instruction n, over those before
+-- the integer of instruction n, over the expressions before
 abbrev pub term_at : List Expression → ℕ → Term
 term_at before n = expression_term (slice_get before n)
 
--- the expression of an instruction, over those of the instructions before it
+-- the expression of an instruction, over the expressions of the instructions before it
 abbrev pub expression_of : List Expression → bz.BzOp → Expression
 expression_of before (bz.TheVariants.Column c) = whole (column c)
 expression_of before (bz.TheVariants.IsTrue c) = truth (is_true c)
@@ -54,7 +54,7 @@ expression_of before (bz.TheVariants.Eq a b) = truth (equal (term_at before a) (
 expression_of before (bz.TheVariants.Lt a b) = truth (less (term_at before a) (term_at before b))
 expression_of before (bz.TheVariants.Le a b) = truth (at_most (term_at before a) (term_at before b))
 
--- the expressions of further instructions, after those before
+-- the expressions, followed by the expressions of further instructions
 unfoldable pub expressions_after : List Expression → List bz.BzOp → List Expression
 expressions_after before [] = before
 expressions_after before (op ∷ ops) = expressions_after (before ++ expression_of before op ∷ []) ops
@@ -63,15 +63,15 @@ expressions_after before (op ∷ ops) = expressions_after (before ++ expression_
 abbrev pub expressions : List bz.BzOp → List Expression
 expressions ops = expressions_after [] ops
 
--- the atoms that engines load, one for each instruction of the Booleanizer
+-- the atoms that engines can load, one for each instruction of the Booleanizer
 abbrev pub atoms : List bz.BzOp → List Atom
 atoms ops = map (λ e. atom_of (Some e)) (expressions ops)
 
--- the core formula of instruction n, over those before, else true
+-- the core formula of instruction n, over the formulas before, else true
 abbrev pub core_at : List Core → ℕ → Core
 core_at before n = slice_index_or before n ctrue
 
--- the formula of an ft instruction, over the atoms that are loaded and the formulas of the instructions before it
+-- the formula of an ft instruction, over the loaded atoms and the formulas of the instructions before it
 abbrev pub op_formula : List Atom → List Core → ft.FtOp → Core
 op_formula loaded before ft.TheVariants.True = ctrue
 op_formula loaded before (ft.TheVariants.Load a) = catom (slice_index_or loaded a (is_true 0))
@@ -79,7 +79,7 @@ op_formula loaded before (ft.TheVariants.Not a) = cnot (core_at before a)
 op_formula loaded before (ft.TheVariants.And a b) = cand (core_at before a) (core_at before b)
 op_formula loaded before (ft.TheVariants.Until a b i) = cuntil i (core_at before a) (core_at before b)
 
--- the formula of a pt instruction, in the same way
+-- the formula of a pt instruction, over the loaded atoms and the formulas of the instructions before it
 abbrev pub past_formula_of : List Atom → List Core → pt.PtOp → Core
 past_formula_of loaded before pt.TheVariants.True = ctrue
 past_formula_of loaded before (pt.TheVariants.Load a) = catom (slice_index_or loaded a (is_true 0))
@@ -87,12 +87,12 @@ past_formula_of loaded before (pt.TheVariants.Not a) = cnot (core_at before a)
 past_formula_of loaded before (pt.TheVariants.And a b) = cand (core_at before a) (core_at before b)
 past_formula_of loaded before (pt.TheVariants.Since a b i) = csince i (core_at before a) (core_at before b)
 
--- the formulas of further ft instructions, after those before
+-- the formulas, followed by the formulas of further ft instructions
 unfoldable pub formulas_after : List Atom → List Core → List ft.FtOp → List Core
 formulas_after loaded before [] = before
 formulas_after loaded before (op ∷ ops) = formulas_after loaded (before ++ op_formula loaded before op ∷ []) ops
 
--- the formulas of further pt instructions, after those before
+-- the formulas, followed by the formulas of further pt instructions
 unfoldable pub past_formulas_after : List Atom → List Core → List pt.PtOp → List Core
 past_formulas_after loaded before [] = before
 past_formulas_after loaded before (op ∷ ops) =
@@ -134,7 +134,7 @@ outputs program = map (output_of program) program.outs
 abbrev pub output_names : Program → List (List ℕ)
 output_names program = map out_name program.outs
 
--- what an instruction requires of a row: a Boolean is 0 or 1, an integer has 32 bits with a sign
+-- the row has what the instruction requires: a Boolean is 0 or 1, an integer has 32 bits with a sign
 abbrev pub FitsRow : Row → bz.BzOp → Type 0
 FitsRow row (bz.TheVariants.Column c) = FitsSigned w32 (in_column row c)
 FitsRow row (bz.TheVariants.IsTrue c) = (in_column row c ≡ pos 0) ⊎ (in_column row c ≡ pos 1)

@@ -1,6 +1,6 @@
 -- The propagation delays of ft instructions, the lengths of their queues, and the boxes of pt instructions.
--- Source: Kempa and others (2020) for delays and shared queues. That an instruction counts among its own siblings,
--- and the boxes of the past, are this product's own.
+-- Source: Kempa and others (2020) for delays and shared queues. That an instruction counts among its own siblings, and the
+-- boxes of the past, are specific to this product.
 -- A reader of the contracts needs this file.
 
 use Rattle.std.specs.Prelude.{ℕ, ◌+◌, ◌-◌, ◌/◌, ◌≤◌, ◌<◌, ◌==◌, List, [], ◌∷◌, ◌++◌, min, max, map, sum, length}
@@ -14,7 +14,7 @@ use Rattle.mltl_base.specs.declared.operators.PtOp as pt
 use Rattle.mltl_base.specs.declared.program.Out.{Out}
 use Rattle.mltl_base.specs.declared.program.Out.TheVariants.{Formula, Contract}
 
--- the best-case propagation delay of an ft instruction, in rows, from those of the instructions before it
+-- the best-case propagation delay of an ft instruction, in rows, from the delays of the instructions before it
 abbrev pub best_of : List ℕ → FtOp → ℕ
 best_of bests True = 0
 best_of bests (Load a) = 0
@@ -22,7 +22,7 @@ best_of bests (Not g) = slice_index bests g
 best_of bests (And l r) = min (slice_index bests l) (slice_index bests r)
 best_of bests (Until l r i) = min (slice_index bests l) (slice_index bests r) + i.lo
 
--- the worst-case propagation delay
+-- the worst-case propagation delay of an ft instruction, in rows, from the delays of the instructions before it
 abbrev pub worst_of : List ℕ → FtOp → ℕ
 worst_of worsts True = 0
 worst_of worsts (Load a) = 0
@@ -30,7 +30,7 @@ worst_of worsts (Not g) = slice_index worsts g
 worst_of worsts (And l r) = max (slice_index worsts l) (slice_index worsts r)
 worst_of worsts (Until l r i) = max (slice_index worsts l) (slice_index worsts r) + i.hi
 
--- the numbers of further instructions after those before, each of which the function finds from all before it
+-- the numbers, followed by a number for each further instruction, computed from all numbers before it
 unfoldable pub numbered_after : (List ℕ → FtOp → ℕ) → List ℕ → List FtOp → List ℕ
 numbered_after number before [] = before
 numbered_after number before (op ∷ ops) = numbered_after number (before ++ number before op ∷ []) ops
@@ -68,12 +68,12 @@ reported (Contract Pt l r name) = []
 abbrev pub readers : List FtOp → List Out → List (List ℕ)
 readers ops outs = map operands ops ++ map reported outs
 
--- the greatest number of a list, 0 of none
+-- the greatest number of a list; 0 for the empty list
 unfoldable pub greatest : List ℕ → ℕ
 greatest [] = 0
 greatest (x ∷ xs) = max x (greatest xs)
 
--- the greatest worst-case delay among the operands of a reader of g; 0 where it doesn't read g
+-- the greatest worst-case delay among the operands of a reader of g; 0 if it doesn't read g
 abbrev pub delay_beside : List ℕ → ℕ → List ℕ → ℕ
 delay_beside worsts g read = if list_any (λ h. h == g) read then greatest (map (slice_index worsts) read) else 0
 
@@ -93,7 +93,7 @@ queue_length ops outs g = widest (worst_delays ops) (readers ops outs) g - slice
 abbrev pub queue_lengths : List FtOp → List Out → List ℕ
 queue_lengths ops outs = map (queue_length ops outs) (range_with_len 0 (length ops))
 
--- the most stretches of times, a box each, that a Since with this interval keeps of its past
+-- the most stretches of times, one box each, that a Since with this interval keeps of its past
 abbrev pub boxes : Interval → ℕ
 boxes i = i.hi / (i.hi - i.lo + 2) + 1
 
@@ -109,11 +109,11 @@ boxes_of (pt.TheVariants.Since l r i) = boxes i
 abbrev pub box_counts : List pt.PtOp → List ℕ
 box_counts ops = map boxes_of ops
 
--- all slots of queues and all boxes together
+-- the number of all slots of queues and all boxes
 abbrev pub slot_count : List FtOp → List pt.PtOp → List Out → ℕ
 slot_count ft pt outs = sum (queue_lengths ft outs) + sum (box_counts pt)
 
--- times from `low` to `top`, each at least `gap` after the one before
+-- the times lie from `low` to `top`, each at least `gap` after the time before it
 unfoldable pub AreApart : ℕ → ℕ → ℕ → List ℕ → Type 0
 AreApart gap low top [] = ⊤
 AreApart gap low top (t ∷ ts) = (low ≤ t) × (t ≤ top) × AreApart gap (t + gap) top ts
@@ -146,14 +146,14 @@ HasPastBounds limit (pt.TheVariants.Not g) = ⊤
 HasPastBounds limit (pt.TheVariants.And l r) = ⊤
 HasPastBounds limit (pt.TheVariants.Since l r i) = (i.lo ≤ i.hi) × (i.hi ≤ limit)
 
--- an output reads existing instructions, out of this many ft and pt instructions
+-- the instructions that an output reads exist, among this many ft and pt instructions
 abbrev pub NamesInstructions : ℕ → ℕ → Out → Type 0
 NamesInstructions fts pts (Formula Ft g name) = g < fts
 NamesInstructions fts pts (Contract Ft l r name) = (l < fts) × (r < fts)
 NamesInstructions fts pts (Formula Pt g name) = g < pts
 NamesInstructions fts pts (Contract Pt l r name) = (l < pts) × (r < pts)
 
--- the ft instructions that an output reports exist, out of this many
+-- the ft instructions that an output reports exist, among this many
 abbrev pub ReportsInstructions : ℕ → Out → Type 0
 ReportsInstructions fts (Formula Ft g name) = g < fts
 ReportsInstructions fts (Contract Ft l r name) = (l < fts) × (r < fts)

@@ -1,5 +1,5 @@
--- The range of a whole-number expression: the least and the greatest value that it is taken to have, from the ranges
--- of its operands.
+-- The range of a whole-number expression: the least and the greatest value that it may have, computed from the ranges of its
+-- operands.
 -- A reader of the contracts needs this file.
 
 use Rattle.std.specs.Prelude.{◌-◌, ℤ, pos, negsuc, neg_ℤ, ◌+ℤ◌, ◌-ℤ◌, ◌*ℤ◌, ◌≤ℤ◌, int_div, int_le, unsigned_abs, Bool}
@@ -14,12 +14,13 @@ pub record Range : Type 0 where
   pub least : ℤ
   pub greatest : ℤ
 
--- why an expression has no range: a divisor that isn't one number other than 0, or a range that leaves 64 bits
+-- the reason why an expression has no range: a divisor that isn't a single number other than 0, or a range that leaves 64
+-- bits
 pub data NoRange : Type 0 where
   divisor : NoRange
   wide : NoRange
 
--- a range, or why there is none
+-- a range, or the reason why there is none
 abbrev pub Ranged : Type 0
 Ranged = Result Range NoRange
 
@@ -39,27 +40,27 @@ least_word = negsuc 9223372036854775807
 abbrev pub greatest_word : ℤ
 greatest_word = pos 9223372036854775807
 
--- a range that stays within 64 bits
+-- the range, or a fault if it leaves 64 bits
 abbrev pub in_word : Range → Ranged
 in_word r = if int_le least_word r.least && int_le r.greatest greatest_word then Ok r else Err wide
 
--- a signal has 32 bits with a sign
+-- the range of a signal: 32 bits with a sign
 abbrev pub signal_range : Range
 signal_range = range_from (negsuc 2147483647) (pos 2147483647)
 
--- the range of -x, from that of x
+-- the range of -x, from the range of x
 abbrev pub negated : Range → Range
 negated r = range_from (neg_ℤ r.greatest) (neg_ℤ r.least)
 
--- the range of x + y, from those of x and y
+-- the range of x + y, from the ranges of x and y
 abbrev pub summed : Range → Range → Range
 summed r s = range_from (r.least +ℤ s.least) (r.greatest +ℤ s.greatest)
 
--- the range of x - y, from those of x and y
+-- the range of x - y, from the ranges of x and y
 abbrev pub lessened : Range → Range → Range
 lessened r s = range_from (r.least -ℤ s.greatest) (r.greatest -ℤ s.least)
 
--- the range of x * y: from the least to the greatest of the four products of ends
+-- the range of x * y: from the least to the greatest of the four products of the ends
 abbrev pub multiplied : Range → Range → Range
 multiplied r s =
     range_from
@@ -68,7 +69,7 @@ multiplied r s =
     (int_max (int_max (r.least *ℤ s.least) (r.least *ℤ s.greatest))
     (int_max (r.greatest *ℤ s.least) (r.greatest *ℤ s.greatest)))
 
--- the range of x / c: from the least to the greatest of the two quotients of ends
+-- the range of x / c: from the least to the greatest of the two quotients of the ends
 abbrev pub divided : Range → ℤ → Range
 divided r c =
     range_from (int_min (int_div r.least c) (int_div r.greatest c)) (int_max (int_div r.least c) (int_div r.greatest c))
@@ -80,28 +81,28 @@ left_over r c =
     else if int_le r.greatest (pos 0) then range_from (neg_ℤ (pos (unsigned_abs c - 1))) (pos 0)
     else range_from (neg_ℤ (pos (unsigned_abs c - 1))) (pos (unsigned_abs c - 1))
 
--- a divisor is one number other than 0
+-- true if the range of a divisor is a single number other than 0
 abbrev pub divides : Range → Bool
 divides s = int_eq s.least s.greatest && not (int_eq s.least (pos 0))
 
--- the range by that of the operand, where it has one
+-- the range computed from the operand's range, if it has one
 abbrev pub over : (Range → Range) → Ranged → Ranged
 over f (Ok r) = in_word (f r)
 over f (Err why) = Err why
 
--- the range by those of both operands, where they have them; of two faults the left operand's comes first
+-- the range computed from the ranges of both operands, if they have one; the left operand's fault comes first
 abbrev pub over_both : (Range → Range → Range) → Ranged → Ranged → Ranged
 over_both f (Ok r) (Ok s) = in_word (f r s)
 over_both f (Ok r) (Err why) = Err why
 over_both f (Err why) s = Err why
 
--- the same, where the right operand has to be a divisor
+-- the range computed from the ranges of both operands, if the right one is a divisor
 abbrev pub over_divisor : (Range → ℤ → Range) → Ranged → Ranged → Ranged
 over_divisor f (Ok r) (Ok s) = if divides s then in_word (f r s.least) else Err divisor
 over_divisor f (Ok r) (Err why) = Err why
 over_divisor f (Err why) s = Err why
 
--- the range of an expression, or why it has none
+-- the range of an expression, or the reason why it has none
 unfoldable pub range : Term → Ranged
 range (column c) = Ok signal_range
 range (constant n) = in_word (range_from n n)

@@ -1,4 +1,4 @@
--- The words of an output that are known, and the reports that a monitor makes of them.
+-- The known words of an output, and the reports that a monitor makes of them.
 -- A reader of the contracts needs this file.
 
 use Rattle.std.specs.Prelude.{ℕ, suc, ◌+◌, ◌-◌, ◌<◌, ◌≤◌, ◌≡◌, ◌==◌, Bool, true, false, if◌then◌else◌, MatchBool, max}
@@ -24,7 +24,7 @@ abbrev pub word_of : Bool → Word
 word_of true = T
 word_of false = F
 
--- the status of a contract, from what is known of its two formulas
+-- the status of a contract, from the known values of its two formulas
 abbrev pub status : Option Bool → Option Bool → Option Word
 status (Some false) y = Some Inactive
 status (Some true) (Some false) = Some Invalid
@@ -40,7 +40,7 @@ unfoldable pub words : List Row → Output → List Word
 words rows (formula p) = map word_of (verdicts rows p)
 words rows (contract p q) = known_front (known_status rows p q) (length rows)
 
--- the two words are one
+-- true if the two words are equal
 abbrev pub same_word : Word → Word → Bool
 same_word T T = true
 same_word F F = true
@@ -65,17 +65,17 @@ abbrev pub delay : Output → ℕ
 delay (formula p) = wpd p
 delay (contract p q) = max (wpd p) (wpd q)
 
--- each list of rows that begins with these, and is long enough to decide the output at t, gives it this word there
+-- each list of rows that begins with these, and is long enough to decide the output at t, gives it this word at t
 abbrev pub IsSettled : List Row → Output → ℕ → Word → Type 0
 IsSettled rows o t w = (more : List Row) → t + delay o < length (rows ++ more) → meaning (rows ++ more) o t ≡ w
 
--- the next word, if there is one, is the same
+-- true if there is a next word and it is the same
 abbrev pub goes_on : Word → List Word → Bool
 goes_on w [] = false
 goes_on w (v ∷ vs) = same_word w v
 
--- the reports of an output's new words, the first of which is that of time t: one for each, or one for each longest
--- stretch of one word, with its last time
+-- the reports of an output's new words, from time t on: one for each word, or one for each longest stretch of one word, with
+-- its last time
 unfoldable pub of_words : Style → ℕ → ℕ → List Word → List Report
 of_words style k t [] = []
 of_words Each k t (w ∷ ws) = record { out = k; time = t; word = w } ∷ of_words Each k (suc t) ws
@@ -83,7 +83,7 @@ of_words Runs k t (w ∷ ws) =
     if goes_on w ws then of_words Runs k (suc t) ws
     else record { out = k; time = t; word = w } ∷ of_words Runs k (suc t) ws
 
--- the reports that one further row brings, for each output in order, of which the first has the number k
+-- the reports that one further row brings, for each output in order; the first output has the number k
 unfoldable pub of_row : Style → ℕ → List Output → List Row → Row → List Report
 of_row style k [] rows r = []
 of_row style k (o ∷ outs) rows r =
@@ -99,12 +99,12 @@ reports_after style outs rows (r ∷ more) = of_row style 0 outs rows r ++ repor
 abbrev pub reports : Style → List Output → List Row → List Report
 reports style outs rows = reports_after style outs [] rows
 
--- what a report covers where the times below t are covered: its word, once for each time from t up to its own
+-- the words that a report covers if the times below t are covered: its word, once for each time from t up to its own
 abbrev pub told_by : ℕ → Report → List Word
 told_by t r = replicate (suc r.time - t) r.word
 
--- the words that the reports of output k cover, one for each time from t on: each report covers the times up to its
--- own that no report before it covers
+-- the words that the reports of output k cover, one for each time from t on: each report covers the times up to its own that
+-- no earlier report covers
 unfoldable pub told : ℕ → ℕ → List Report → List Word
 told k t [] = []
 told k t (r ∷ rs) = if r.out == k then told_by t r ++ told k (suc r.time) rs else told k t rs
@@ -117,7 +117,7 @@ reports_of k rs = filter (λ r. r.out == k) rs
 abbrev pub AreDistinctBeside : List Report → Type 0
 AreDistinctBeside rs = AllAdjacentBelow (λ r s. ¬ (r.word ≡ s.word)) rs (length rs)
 
--- the reports of output k speak of later and later times, from t on
+-- the reports of output k have ever later times, from t on
 unfoldable pub IsRising : ℕ → ℕ → List Report → Type 0
 IsRising k t [] = ⊤
 IsRising k t (r ∷ rs) = MatchBool (r.out == k) ((t ≤ r.time) × IsRising k (suc r.time) rs) (IsRising k t rs)

@@ -1,4 +1,4 @@
--- Members of a list that have parts of one slab, whatever else members and slab are.
+-- Members of a list that have parts of one slab, for members and slabs of any type.
 use Rattle.std.specs.Prelude.{ℕ, ◌+◌, ◌≤◌, ◌<◌, List, slice_index_or, take, drop}
 use Rattle.mltl_base.specs.declared.seat.Seat.{Seat}
 
@@ -6,7 +6,7 @@ use Rattle.mltl_base.specs.declared.seat.Seat.{Seat}
 abbrev pub part : {S : Type 0} → List S → Seat → List S
 part slab seat = take seat.size (drop seat.start slab)
 
--- a seat without a place
+-- an empty seat
 abbrev pub no_seat : Seat
 no_seat = record { start = 0; size = 0 }
 

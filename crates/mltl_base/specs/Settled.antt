@@ -1,4 +1,4 @@
--- What of the verdicts holds whatever rows follow.
+-- Verdicts that hold whatever rows follow.
 -- A reader of the contracts needs this file.
 
 use Rattle.std.specs.Prelude.{ℕ, ◌+◌, ◌<◌, ◌≤◌, ◌≡◌, Bool, List, ◌++◌, length, ⊤}
@@ -12,11 +12,12 @@ use Rattle.mltl_base.specs.Meaning.{sat}
 abbrev pub IsPrefix : {X : Type 0} → List X → List X → Type 0
 IsPrefix {X} xs ys = (zs : List X) × (ys ≡ xs ++ zs)
 
--- each list of rows that begins with these, and is long enough to decide the formula at t, gives it the value v there
+-- each list of rows that begins with these, and is long enough to decide the formula at t, gives it the value v at t
 abbrev pub Settled : List Row → Formula → ℕ → Bool → Type 0
 Settled rows p t v = (more : List Row) → t + wpd p < length (rows ++ more) → sat (rows ++ more) p t ≡ v
 
--- the same, over those lists of further rows alone that are of the class: rows that fit a program, say
+-- each such list whose further rows are of the class gives the formula the value v at t; a class: the rows that fit a
+-- program
 abbrev pub SettledAmong : (List Row → Type 0) → List Row → Formula → ℕ → Bool → Type 0
 SettledAmong IsIn rows p t v =
     (more : List Row) → IsIn more → t + wpd p < length (rows ++ more) → sat (rows ++ more) p t ≡ v
@@ -25,7 +26,7 @@ SettledAmong IsIn rows p t v =
 abbrev pub IsOrdered : Formula → Type 0
 IsOrdered p = EachInterval (λ i. i.lo ≤ i.hi) p
 
--- no operator of the future
+-- the formula has no operator of the future
 abbrev pub IsPast : Formula → Type 0
 IsPast truth = ⊤
 IsPast falsity = ⊤
@@ -40,7 +41,7 @@ IsPast (historically i p) = IsPast p
 IsPast (since i p q) = IsPast p × IsPast q
 IsPast _ = ⊥
 
--- no operator of the past
+-- the formula has no operator of the past
 abbrev pub IsFuture : Formula → Type 0
 IsFuture truth = ⊤
 IsFuture falsity = ⊤

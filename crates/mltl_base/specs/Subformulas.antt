@@ -20,11 +20,11 @@ use Rattle.mltl_base.specs.Settled.{IsFuture, IsPast}
 use Rattle.mltl_base.specs.Reports.{Output, formula, contract}
 use Rattle.mltl_base.specs.Programs.{Expression, whole, truth, output_of}
 
--- two intervals are one
+-- true if the two intervals are equal
 abbrev pub same_interval : Interval → Interval → Bool
 same_interval i j = i.lo == j.lo && i.hi == j.hi
 
--- two whole-number expressions are one
+-- true if the two whole-number expressions are equal
 unfoldable pub same_term : Term → Term → Bool
 same_term (column c) (column d) = c == d
 same_term (constant n) (constant m) = int_eq n m
@@ -36,7 +36,7 @@ same_term (quotient a b) (quotient c d) = same_term a c && same_term b d
 same_term (remainder a b) (remainder c d) = same_term a c && same_term b d
 same_term _ _ = false
 
--- two atoms are one
+-- true if the two atoms are equal
 unfoldable pub same_atom : Atom → Atom → Bool
 same_atom (is_true c) (is_true d) = c == d
 same_atom (equal a b) (equal c d) = same_term a c && same_term b d
@@ -47,13 +47,13 @@ same_atom (greater a b) (greater c d) = same_term a c && same_term b d
 same_atom (at_least a b) (at_least c d) = same_term a c && same_term b d
 same_atom _ _ = false
 
--- two expressions of the Booleanizer are one
+-- true if the two expressions of the Booleanizer are equal
 unfoldable pub same_expression : Expression → Expression → Bool
 same_expression (whole a) (whole b) = same_term a b
 same_expression (truth a) (truth b) = same_atom a b
 same_expression _ _ = false
 
--- two core formulas are one
+-- true if the two core formulas are equal
 unfoldable pub same : Core → Core → Bool
 same ctrue ctrue = true
 same (catom a) (catom b) = same_atom a b
@@ -63,12 +63,12 @@ same (cuntil i p q) (cuntil j r s) = same_interval i j && (same p r && same q s)
 same (csince i p q) (csince j r s) = same_interval i j && (same p r && same q s)
 same _ _ = false
 
--- some member of the list is the same as x
+-- true if some member of the list is equal to x
 unfoldable pub listed : {X : Type 0} → (X → X → Bool) → X → List X → Bool
 listed alike x [] = false
 listed alike x (y ∷ ys) = alike x y || listed alike x ys
 
--- the place of the first member that is the same as x; the length of the list where there is none
+-- the place of the first member that is equal to x; the length of the list if there is none
 unfoldable pub place_of : {X : Type 0} → (X → X → Bool) → X → List X → ℕ
 place_of alike x [] = 0
 place_of alike x (y ∷ ys) = if alike x y then 0 else suc (place_of alike x ys)
@@ -136,7 +136,7 @@ abbrev pub formulas_of : Output → List Formula
 formulas_of (formula p) = p ∷ []
 formulas_of (contract p q) = p ∷ q ∷ []
 
--- two engines are one
+-- true if the two engines are equal
 abbrev pub same_engine : Engine → Engine → Bool
 same_engine Ft Ft = true
 same_engine Pt Pt = true
@@ -164,8 +164,8 @@ bz_expressions outs = fold (λ es p. add_expressions p es) [] (all_cores outs)
 abbrev pub instruction_of : List Expression → Term → ℕ
 instruction_of es a = place_of same_expression (whole a) es
 
--- the instruction of an expression, its operands by the numbers of their instructions. Core formulas have the first
--- three comparisons alone, so the last line is for none of theirs
+-- the instruction of an expression, its operands by the numbers of their instructions. Core formulas have the first three
+-- comparisons alone, so the last line never applies to them
 abbrev pub bz_instruction : List Expression → Expression → bz.BzOp
 bz_instruction es (whole (column c)) = bz.TheVariants.Column c
 bz_instruction es (whole (constant n)) = bz.TheVariants.Const n
@@ -182,7 +182,7 @@ bz_instruction es (truth (at_most a b)) = bz.TheVariants.Le (instruction_of es a
 bz_instruction es (truth a) = bz.TheVariants.IsTrue 0
 
 -- the instruction of a core formula of the future, over the expressions and the listed formulas. The last line is for
--- formulas of the past, which the future-time engine has none of
+-- formulas of the past, which the future-time engine never has
 abbrev pub ft_instruction : List Expression → List Core → Core → ft.FtOp
 ft_instruction es ps ctrue = ft.TheVariants.True
 ft_instruction es ps (catom a) = ft.TheVariants.Load (place_of same_expression (truth a) es)
@@ -191,8 +191,8 @@ ft_instruction es ps (cand p q) = ft.TheVariants.And (place_of same p ps) (place
 ft_instruction es ps (cuntil i p q) = ft.TheVariants.Until (place_of same p ps) (place_of same q ps) i
 ft_instruction es ps (csince i p q) = ft.TheVariants.True
 
--- the instruction of a core formula of the past. The last line is for formulas of the future, which the past-time
--- engine has none of
+-- the instruction of a core formula of the past. The last line is for formulas of the future, which the past-time engine
+-- never has
 abbrev pub pt_instruction : List Expression → List Core → Core → pt.PtOp
 pt_instruction es ps ctrue = pt.TheVariants.True
 pt_instruction es ps (catom a) = pt.TheVariants.Load (place_of same_expression (truth a) es)
@@ -228,23 +228,23 @@ abbrev pub core_output : Output → Output
 core_output (formula p) = formula (plain (core p))
 core_output (contract p q) = contract (plain (core p)) (plain (core q))
 
--- an output of a program as one of a specification, by the formulas that its instructions unfold to
+-- an output of a program as an output of a specification, by the formulas that its instructions unfold to
 abbrev pub asked_of_program : Program → out.Out → Asked
 asked_of_program program (out.TheVariants.Formula engine i name) =
     record { engine = engine; name = name; output = output_of program (out.TheVariants.Formula engine i name) }
 asked_of_program program (out.TheVariants.Contract engine i j name) =
     record { engine = engine; name = name; output = output_of program (out.TheVariants.Contract engine i j name) }
 
--- the outputs of a program as those of a specification
+-- the outputs of a program as outputs of a specification
 abbrev pub unfolded_outputs : Program → List Asked
 unfolded_outputs program = map (asked_of_program program) program.outs
 
--- no formula mixes tenses: one of the future engine has no operator of the past, and the other way round
+-- the formula has the engine's tense alone: no operator of the past for the future engine, and the reverse
 abbrev pub IsOfTense : Engine → Formula → Type 0
 IsOfTense Ft p = IsFuture p
 IsOfTense Pt p = IsPast p
 
--- the formulas of an output are of the tense of its engine
+-- the formulas of an output have the tense of its engine
 abbrev pub IsTensed : Asked → Type 0
 IsTensed asked = All (IsOfTense asked.engine) (formulas_of asked.output)
 
@@ -255,7 +255,7 @@ pub record IsGraphOf (outs : List Asked) (graph : Graph) : Type 0 where
   pub pt : graph.pt ≡ pt_list outs
   pub reports : graph.outs ≡ out_list outs
 
--- a program has them
+-- a program has the lists of a specification
 pub record HasListsOf (outs : List Asked) (program : Program) : Type 0 where
   pub bz : program.bz ≡ bz_list outs
   pub ft : program.ft ≡ ft_list outs

@@ -1,6 +1,5 @@
--- The table of the operators, in words: what a formula says of the rows at a time.
--- A reader of the contracts needs this file: it is the meaning to be read, and a law says that the function is the
--- same.
+-- The table of the operators, in words: the meaning of a formula on the rows at a time.
+-- A reader of the contracts needs this file: it is the meaning to be read, and a law says that the function agrees.
 
 use Rattle.std.specs.Prelude.{ℕ, ◌+◌, ◌-◌, ◌<◌, ◌≤◌, ◌⊎◌, IsTrue, List, [], slice_index_or, ⊤}
 use Rattle.mltl_base.specs.declared.interval.Interval.{Interval}
@@ -8,11 +7,11 @@ use Rattle.mltl_base.specs.Atoms.{Row, holds}
 use Rattle.mltl_base.specs.Formula.{Formula, truth, falsity, atom, negation, conjunction, disjunction, implication}
 use Rattle.mltl_base.specs.Formula.{equivalence, finally, globally, until, release, once, historically, since}
 
--- some k of the interval has q at t + k, and p holds at t + j for every j from its lower end and below k
+-- q holds at t + k for some k of the interval, and p holds at t + j for every j from the lower end and below k
 abbrev pub UntilAt : Interval → (ℕ → Type 0) → (ℕ → Type 0) → ℕ → Type 0
 UntilAt i P Q t = (k : ℕ) × (i.lo ≤ k) × (k ≤ i.hi) × Q (t + k) × ((j : ℕ) → i.lo ≤ j → j < k → P (t + j))
 
--- some m up to t, as far back as the interval says, has q, and p holds at every k after m up to t
+-- q holds at some m up to t, as far back as the interval says, and p holds at every k after m up to t
 abbrev pub SinceAt : Interval → (ℕ → Type 0) → (ℕ → Type 0) → ℕ → Type 0
 SinceAt i P Q t = (m : ℕ) × (m ≤ t) × (i.lo ≤ t - m) × (t - m ≤ i.hi) × Q m × ((k : ℕ) → m < k → k ≤ t → P k)
 

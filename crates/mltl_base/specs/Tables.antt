@@ -10,6 +10,6 @@ abbrev pub entry_of : {V : Type 0} → List ℕ → Table V → Option V
 entry_of x [] = None
 entry_of x (e ∷ es) = if bytes_eq x e.0 then Some e.1 else entry_of x es
 
--- whether a name is in a table
+-- true if the table has the name
 abbrev pub is_named : {V : Type 0} → List ℕ → Table V → Bool
 is_named x es = is_some (entry_of x es)

@@ -1,16 +1,16 @@
-//! Spaces and tabs, which don't count around fields and names.
+//! Spaces and tabs, which are ignored around fields and names.
 
 ghost use Rattle.std.specs.Prelude.{◌≡◌};
 ghost use Rattle.mltl_base.specs.Blanks.{is_blank as is_space_or_tab, is_blank_line as is_all_blank};
 
-/// Whether a byte is a space or a tab.
+/// Returns true if the byte is a space or a tab.
 pub fn is_blank(byte: u8) -> bool
     ensures { result ≡ is_space_or_tab byte }
 {
     byte == b' ' || byte == b'\t'
 }
 
-/// Whether a line has nothing but blanks.
+/// Returns true if the line has nothing but blanks.
 pub fn is_blank_line(line: &[u8]) -> bool
     ensures { result ≡ is_all_blank line.now }
 {

@@ -1,4 +1,4 @@
-//! A list of fixed length.
+//! Lists of fixed length.
 
 ghost use Rattle.std.specs.Prelude.{◌≡◌, replicate, IfOk, vec_len};
 ghost use Rattle.std.specs.Borrow.{sem};
@@ -8,8 +8,8 @@ ghost use Rattle.mltl_base.specs.Lending.{lends_all};
 use std::alloc::{AllocError, Global};
 use std::marker::Model;
 
-/// A list whose length never changes, in a block of exactly its members' size. It exposes neither its allocator nor a
-/// clone, so no call on it can allocate. Contracts see it as that list.
+/// A list whose length never changes, in a block of exactly its size. It exposes neither its
+/// allocator nor a clone, so no call on it can allocate. Contracts see it as that list.
 #[derive(Drop)]
 pub struct Fixed<T> {
     items: Vec<T>,
@@ -27,7 +27,7 @@ impl<T> Model for Fixed<T> {
 }
 
 impl<T> Fixed<T> {
-    /// The members of a vector whose block has no spare room.
+    /// Makes a list of a vector whose block has no spare room.
     pub fn of(items: Vec<T>) -> Fixed<T>
         requires no_spare { vec_capacity items ≡ vec_len items }
         ensures { result ≡ items.items }
@@ -35,7 +35,7 @@ impl<T> Fixed<T> {
         Fixed { items }
     }
 
-    /// All members in order.
+    /// Returns all members in order.
     #[inline]
     pub fn as_slice(&self) -> &[T]
         ensures { result.now ≡ self.now }
@@ -43,7 +43,7 @@ impl<T> Fixed<T> {
         self.items.as_slice()
     }
 
-    /// All members in order, to be changed in place.
+    /// Returns all members in order, to be changed in place.
     #[inline]
     pub fn as_mut_slice(&mut self) -> &mut [T]
         ensures* writes_back { sem 𝓛 (lends_all T.row self.entry result) }
@@ -54,7 +54,7 @@ impl<T> Fixed<T> {
 }
 
 impl<T: Copy> Fixed<T> {
-    /// Makes `count` copies of a value; the only allocation.
+    /// Creates a list of `count` copies of a value. No other call allocates.
     pub fn filled(alloc: Global, value: T, count: usize) -> Result<Fixed<T>, AllocError>
         ensures { IfOk result (λ fixed. fixed ≡ replicate count value) }
     {

@@ -1,6 +1,6 @@
 //! Intervals of a temporal operator, and the engines that evaluate formulas.
 
-/// The times from `lo` to `hi` rows away, both counted: the `[lo,hi]` of a temporal operator.
+/// The times from `lo` to `hi` rows away, both included: the `[lo,hi]` of a temporal operator.
 #[derive(Clone, Copy, PartialEq, Eq, Hash)]
 pub struct Interval {
     pub lo: u32,
@@ -14,7 +14,7 @@ pub enum Engine {
     Pt,
 }
 
-/// The part of a program to which an instruction belongs: the Booleanizer, future time or past time.
+/// The part of a program that has an instruction: the Booleanizer, future time or past time.
 #[derive(Clone, Copy)]
 pub enum Part {
     Bz,

@@ -1,4 +1,4 @@
-//! What the definitions of this crate say together: each law is the contract of a function with an empty body.
+//! Laws that follow from the definitions of this crate: each is the contract of an empty function.
 
 pub mod instructions;
 pub mod known;

@@ -10,8 +10,8 @@ use std::mem;
 /// The most members of a list.
 pub const MAX_MEMBERS: usize = 1_152_921_504_606_846_976;
 
-/// A list of members of one type, which contracts see as that list. Its block has room for as many members as `room` says
-/// of its length, however the list was made.
+/// A list of members of one type, which contracts see as that list. Its block has room for as many
+/// members as `room` gives for its length, however the list was built.
 #[derive(Drop)]
 pub struct List<T> {
     items: Vec<T>,
@@ -28,7 +28,7 @@ impl<T> Model for List<T> {
     ghost invariant = { λ list. vec_capacity list.items ≡ room (vec_len list.items) };
 }
 
-/// The members of a list, in its memory.
+/// Takes the members of a list, in its memory.
 impl<T> From<List<T>> for Vec<T> {
     ghost from_gives = { λ list items. items.items ≡ list };
 
@@ -37,7 +37,7 @@ impl<T> From<List<T>> for Vec<T> {
     }
 }
 
-/// The members that a list of `n` members has room for, at most an eighth more than these.
+/// Returns the room of a list of `n` members: `n`, or at most an eighth more.
 #[tactic(auto, using(crate::proofs::Rooms::enough, crate::proofs::Rooms::close))]
 pub fn room_of(n: usize) -> usize
     requires few { n ≤ MAX_MEMBERS }
@@ -59,7 +59,7 @@ fn room_by(halvings: u32, n: usize) -> usize
     2 * room_by(halvings - 1, n.div_ceil(2))
 }
 
-/// Makes room for one more item in the vector of a list.
+/// Reserves room for one more item in the vector of a list.
 #[tactic(auto, using(crate::proofs::Rooms::enough, crate::proofs::Rooms::stays))]
 fn make_room<T>(items: &mut Vec<T>) -> Result<(), AllocError>
     requires fit { vec_capacity items.old ≡ room (vec_len items.old) }
@@ -80,7 +80,7 @@ fn make_room<T>(items: &mut Vec<T>) -> Result<(), AllocError>
 }
 
 impl<T> List<T> {
-    /// Makes the empty list. It does not allocate.
+    /// Creates an empty list. Does not allocate.
     #[tactic(auto, using(crate::proofs::Rooms::none))]
     pub fn new(alloc: Global) -> Self
         ensures { result ≡ [] }
@@ -90,7 +90,7 @@ impl<T> List<T> {
         }
     }
 
-    /// An empty vector with the room of a list of `n` members, which it becomes by `of` once it has these.
+    /// Returns an empty vector with the room of a list of `n` members, for `of` once it has them.
     pub fn room_for(alloc: Global, n: usize) -> Result<Vec<T>, AllocError>
         ensures items { IfOk result (λ items. items.items ≡ []) }
         ensures len { IfOk result (λ items. vec_len items ≡ 0) }
@@ -103,7 +103,7 @@ impl<T> List<T> {
         Vec::with_capacity(alloc, room_of(n))
     }
 
-    /// The members of a vector that has room for as many as a list of its length, in its memory.
+    /// Makes a list of a vector that has the room of a list of its length, in its memory.
     pub fn of(items: Vec<T>) -> Self
         requires { vec_capacity items ≡ room (vec_len items) }
         ensures { result ≡ items.items }
@@ -111,7 +111,7 @@ impl<T> List<T> {
         List { items }
     }
 
-    /// Puts an item after the last member. When out of memory, the item is handed back.
+    /// Appends an item. Returns the item if memory runs out.
     pub fn push(&mut self, item: T) -> Result<(), AllocFailed<T>>
         ensures pushed { OnOk result (self.new ≡ self.old ++ item ∷ []) }
         ensures kept { OnErr result (self.new ≡ self.old) }
@@ -124,21 +124,21 @@ impl<T> List<T> {
         Ok(())
     }
 
-    /// The number of members.
+    /// Returns the number of members.
     pub fn len(&self) -> usize
         ensures { result ≡ length self.now }
     {
         self.items.len()
     }
 
-    /// Whether the list has no member.
+    /// Returns true if the list has no member.
     pub fn is_empty(&self) -> bool
         ensures { result ≡ (length self.now == 0) }
     {
         self.items.is_empty()
     }
 
-    /// Member `i`, counted from 0.
+    /// Returns member `i`, counted from 0.
     pub fn get(&self, i: usize) -> &T
         requires { i < length self.now }
         ensures { slice_get self.now i ≡ Some result.now }
@@ -146,14 +146,14 @@ impl<T> List<T> {
         &self.items[i]
     }
 
-    /// All members in order.
+    /// Returns all members in order.
     pub fn as_slice(&self) -> &[T]
         ensures { result.now ≡ self.now }
     {
         self.items.as_slice()
     }
 
-    /// Replaces member `i`, counted from 0, and hands the older one back.
+    /// Replaces member `i`, counted from 0, and returns the old one.
     pub fn put(&mut self, i: usize, item: T) -> T
         requires { i < length self.old }
         ensures replaced { self.new ≡ slice_set self.old i item }

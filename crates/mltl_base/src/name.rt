@@ -8,8 +8,8 @@ use std::marker::Model;
 /// The most bytes of a name.
 const MOST: usize = 64;
 
-/// A name of 1 to 64 bytes, which contracts see as the list of its bytes. It takes 65 bytes at any address: trees and tokens
-/// hold many, and with a word for the length they would take an eighth more.
+/// A name of 1 to 64 bytes, which contracts see as the list of its bytes. It takes 65 bytes at any
+/// address: trees and tokens hold many, and a word for the length would make them an eighth larger.
 #[derive(Drop)]
 pub struct Name {
     letters: [u8; MOST],
@@ -27,7 +27,7 @@ impl Model for Name {
 }
 
 impl Name {
-    /// The name with these bytes; `None` where they aren't 1 to 64 in number.
+    /// Returns the name with these bytes, or `None` unless there are 1 to 64.
     pub fn of(bytes: &[u8]) -> Option<Name>
         ensures fits { IsSome result ↔ ((1 ≤ length bytes.now) × (length bytes.now ≤ 64)) }
         ensures named { IfSome result (λ name. name ≡ bytes.now) }
@@ -44,7 +44,7 @@ impl Name {
         })
     }
 
-    /// The bytes of the name.
+    /// Returns the bytes of the name.
     pub fn bytes(&self) -> &[u8]
         ensures bytes { result.now ≡ self.now }
         ensures some { 1 ≤ length self.now }
@@ -53,7 +53,7 @@ impl Name {
         &self.letters[..usize::from(self.count)]
     }
 
-    /// A second name with the same bytes.
+    /// Returns a second name with the same bytes.
     pub fn copy(&self) -> Name
         ensures { result ≡ self.now }
     {
@@ -64,7 +64,7 @@ impl Name {
     }
 }
 
-/// Whether a byte may occur in a name or a word of the language: a letter of ASCII, a digit or `_`.
+/// Returns true if a word of the language may have the byte: an ASCII letter, a digit or `_`.
 pub fn is_in_word(byte: u8) -> bool
     ensures { result ≡ is_in_word byte }
 {

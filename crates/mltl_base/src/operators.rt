@@ -23,7 +23,7 @@ pub enum CompareOp {
     Ge,
 }
 
-/// An operator between formulas that looks at one time.
+/// An operator between formulas at one time.
 #[derive(Clone, Copy)]
 pub enum LogicOp {
     And,
@@ -49,7 +49,7 @@ pub enum BetweenOp {
     S,
 }
 
-/// What a counting quantifier asks of the number of true bodies.
+/// The comparison that a counting quantifier makes with the number of true bodies.
 #[derive(Clone, Copy)]
 pub enum CountOp {
     Exactly,
@@ -57,12 +57,13 @@ pub enum CountOp {
     AtMost,
 }
 
-/// An instruction of the Booleanizer. Operands are numbers of earlier instructions, columns count from 0.
+/// An instruction of the Booleanizer. Operands are numbers of earlier instructions; columns count
+/// from 0.
 #[derive(Clone, Copy)]
 pub enum BzOp {
     /// The integer in a column.
     Column(u32),
-    /// The truth in a column, which is 0 or 1.
+    /// The Boolean in a column, which is 0 or 1.
     IsTrue(u32),
     Const(i64),
     Neg(u32),
@@ -78,8 +79,8 @@ pub enum BzOp {
     Le(u32, u32),
 }
 
-/// An instruction of the future-time engine. `Load` reads a Boolean of the Booleanizer, other operands are numbers of
-/// earlier instructions of the engine.
+/// An instruction of the future-time engine. `Load` reads a Boolean of the Booleanizer; other
+/// operands are numbers of earlier instructions of the engine.
 #[derive(Clone, Copy)]
 pub enum FtOp {
     True,
@@ -89,8 +90,8 @@ pub enum FtOp {
     Until(u32, u32, Interval),
 }
 
-/// An instruction of the past-time engine. `Load` reads a Boolean of the Booleanizer, other operands are numbers of
-/// earlier instructions of the engine.
+/// An instruction of the past-time engine. `Load` reads a Boolean of the Booleanizer; other
+/// operands are numbers of earlier instructions of the engine.
 #[derive(Clone, Copy)]
 pub enum PtOp {
     True,

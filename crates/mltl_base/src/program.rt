@@ -5,8 +5,8 @@ ghost use Rattle.mltl_base.specs.Programs.{out_name};
 
 use crate::{BzOp, Engine, FtOp, List, Name, PtOp};
 
-/// What a program reports: a formula, or an assume-guarantee contract of two formulas. The numbers are those of
-/// instructions of the engine.
+/// An output of a program: a formula, or an assume-guarantee contract of two formulas, by the
+/// numbers of their instructions in the engine.
 #[derive(Drop)]
 pub enum Out {
     Formula(Engine, u32, Name),
@@ -14,7 +14,7 @@ pub enum Out {
 }
 
 impl Out {
-    /// The name under which it is reported.
+    /// Returns the name under which the output is reported.
     pub fn name(&self) -> &Name
         ensures name { result.now ≡ out_name self.now }
     {
@@ -24,7 +24,7 @@ impl Out {
     }
 }
 
-/// The slots of the queue of each ft instruction, and the most boxes of each pt instruction.
+/// The queue slots of each ft instruction, and the most boxes of each pt instruction.
 #[derive(Drop)]
 pub struct Sizes {
     pub ft: List<u32>,
@@ -48,8 +48,8 @@ pub struct StoredSignal {
     pub column: u32,
 }
 
-/// An observer program. One of version 1 stores no signals; in one of version 2 each column that an instruction reads
-/// is that of a stored signal.
+/// An observer program. In version 1 it stores no signals; in version 2 each column that an
+/// instruction reads is the column of a stored signal.
 #[derive(Drop)]
 pub struct Program {
     pub version: u32,

@@ -1,4 +1,4 @@
-//! The values that a whole-number expression may have: ends have 64 bits, numbers on the way to them have 128.
+//! Ranges of whole-number expressions. Ends have 64 bits, intermediate results have 128.
 
 ghost use Rattle.std.specs.Prelude.{◌≡◌, ◌≢◌, ◌≤ℤ◌, neg_ℤ, ◌+ℤ◌, ◌-ℤ◌, ◌*ℤ◌, int_div, pos, Ok, true, false, IfOk, IfErr};
 ghost use Rattle.mltl_base.specs.Ranges.{Range as Values, divided, divides, in_word as within_word, left_over, lessened, multiplied, negated, over_divisor, range_from, signal_range, summed};
@@ -11,7 +11,7 @@ const LEAST: i128 = -9_223_372_036_854_775_808;
 
 const GREATEST: i128 = 9_223_372_036_854_775_807;
 
-/// The integers from a least to a greatest, which contracts see as the range of the definitions.
+/// The integers from a least to a greatest value. Contracts see the range of the definitions.
 #[derive(Clone, Copy)]
 pub struct Range {
     least: i64,
@@ -32,7 +32,7 @@ impl Model for Range {
 }
 
 impl Range {
-    /// The least value.
+    /// Returns the least value.
     pub fn least(self) -> i64
         ensures least { result ≡ self.least }
         ensures upward { self.least ≤ℤ self.greatest }
@@ -40,7 +40,7 @@ impl Range {
         self.least
     }
 
-    /// The greatest value.
+    /// Returns the greatest value.
     pub fn greatest(self) -> i64
         ensures greatest { result ≡ self.greatest }
         ensures upward { self.least ≤ℤ self.greatest }
@@ -49,16 +49,16 @@ impl Range {
     }
 }
 
-/// Why an expression has no range.
+/// The reason why an expression has no range.
 #[derive(Clone, Copy)]
 pub enum NoRange {
-    /// The divisor isn't one number other than 0.
+    /// The divisor isn't a single number other than 0.
     Divisor,
     /// The range leaves 64 bits.
     Wide,
 }
 
-/// The range of a signal: 32 bits with a sign.
+/// Returns the range of a signal: 32 bits with a sign.
 pub fn signal() -> Range
     ensures { result ≡ signal_range }
 {
@@ -68,7 +68,7 @@ pub fn signal() -> Range
     }
 }
 
-/// The range of a number: itself alone.
+/// Returns the range of a number: the number alone.
 pub fn constant(n: i64) -> Range
     ensures { result ≡ range_from n n }
 {
@@ -78,21 +78,21 @@ pub fn constant(n: i64) -> Range
     }
 }
 
-/// The range of a negation.
+/// Returns the range of a negation.
 pub fn negation(a: Range) -> Result<Range, NoRange>
     ensures { IsRangeOf result (within_word (negated a)) }
 {
     in_word(opposite(a.greatest()), opposite(a.least()))
 }
 
-/// The range of a sum.
+/// Returns the range of a sum.
 pub fn sum(a: Range, b: Range) -> Result<Range, NoRange>
     ensures { IsRangeOf result (within_word (summed a b)) }
 {
     in_word(plus(a.least(), b.least()), plus(a.greatest(), b.greatest()))
 }
 
-/// The range of a difference.
+/// Returns the range of a difference.
 pub fn difference(a: Range, b: Range) -> Result<Range, NoRange>
     ensures { IsRangeOf result (within_word (lessened a b)) }
 {
@@ -102,7 +102,7 @@ pub fn difference(a: Range, b: Range) -> Result<Range, NoRange>
     )
 }
 
-/// The range of a product.
+/// Returns the range of a product.
 pub fn product(a: Range, b: Range) -> Result<Range, NoRange>
     ensures { IsRangeOf result (within_word (multiplied a b)) }
 {
@@ -120,7 +120,7 @@ pub fn product(a: Range, b: Range) -> Result<Range, NoRange>
     )
 }
 
-/// The range of a quotient.
+/// Returns the range of a quotient.
 pub fn quotient(a: Range, b: Range) -> Result<Range, NoRange>
     ensures { IsRangeOf result (over_divisor divided (Ok a) (Ok b)) }
 {
@@ -133,7 +133,7 @@ pub fn quotient(a: Range, b: Range) -> Result<Range, NoRange>
     in_word(low.min(high), low.max(high))
 }
 
-/// The range of a remainder.
+/// Returns the range of a remainder.
 pub fn remainder(a: Range, b: Range) -> Result<Range, NoRange>
     ensures { IsRangeOf result (over_divisor left_over (Ok a) (Ok b)) }
 {
@@ -147,7 +147,7 @@ pub fn remainder(a: Range, b: Range) -> Result<Range, NoRange>
     }
 }
 
-/// The one number of a divisor's range, which isn't 0.
+/// Returns the only number of a divisor's range, which isn't 0.
 fn divisor_of(b: Range) -> Result<i64, NoRange>
     ensures one { IfOk result (λ n. (divides b ≡ true) × (n ≡ b.least)) }
     ensures none { IfErr result (λ why. (divides b ≡ false) × (why ≡ not_one)) }
@@ -159,7 +159,7 @@ fn divisor_of(b: Range) -> Result<i64, NoRange>
     }
 }
 
-/// The range with these ends, where they have 64 bits.
+/// Returns the range with these ends, or `Wide` if they leave 64 bits.
 fn in_word(least: i128, greatest: i128) -> Result<Range, NoRange>
     requires { least ≤ℤ greatest }
     ensures { (range : Values) →
@@ -199,7 +199,7 @@ fn times(x: i64, y: i64) -> i128
     i128::from(x) * i128::from(y)
 }
 
-/// A quotient, which has 64 bits but for that of the least number and -1.
+/// Divides. The quotient has 64 bits, except for the least number over -1.
 fn over(x: i64, y: i64) -> i128
     requires { y ≢ pos 0 }
     ensures { result ≡ int_div x y }

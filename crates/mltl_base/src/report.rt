@@ -1,4 +1,4 @@
-//! What a monitor reports of an output.
+//! Reports of a monitor on an output.
 
 ghost use Rattle.std.specs.Prelude.{◌≡◌, ◌≤◌, length};
 ghost use Rattle.mltl_base.specs.Lines.{word_text};
@@ -12,12 +12,12 @@ pub enum Word {
     Inactive,
     /// The assumption is true and the guarantee is false.
     Invalid,
-    /// Assumption and guarantee are true.
+    /// The assumption and the guarantee are true.
     Verified,
 }
 
 impl Word {
-    /// How a line of verdicts writes the word.
+    /// Returns the word as a line of verdicts has it.
     pub fn text(self) -> &'static str
         ensures text { result.now ≡ word_text self }
         ensures short { length result.now ≤ 8 }
@@ -32,7 +32,7 @@ impl Word {
     }
 }
 
-/// How times are reported: one report for each time, or one for each longest run of newly known times with one word.
+/// The style of reports: one for each time, or one for each longest run of new times with one word.
 #[derive(Clone, Copy, PartialEq, Eq, Debug)]
 pub enum Style {
     Each,

@@ -1,6 +1,6 @@
-//! The part of a slab that belongs to one of many.
+//! Parts of a slab that many owners share.
 
-/// Where a part of a slab starts, and how long it is. Each queue of an engine has its own part of one slab.
+/// The start and the length of a part of a slab. Each queue of an engine has its own part.
 #[derive(Clone, Copy)]
 pub struct Seat {
     pub start: usize,

@@ -1,4 +1,4 @@
-//! Tables of names: a name is found without a search through the others.
+//! Tables that find a name without a search through the others.
 
 ghost use Rattle.std.specs.Prelude.{◌≡◌, ◌<◌, ◌++◌, ◌∷◌, [], None, Some, length, option_map, slice_get, OnOk};
 ghost use Rattle.mltl_base.specs.Tables.{entry_of, is_named};
@@ -13,7 +13,7 @@ use std::marker::Model;
 pub struct NameTable<V> {
     /// The values of the names.
     values: Vec<V>,
-    /// Of each name the number of its value.
+    /// The number of the value of each name.
     numbers: BTreeMap<Vec<u8>, usize>,
 }
 
@@ -29,7 +29,7 @@ impl<V> Model for NameTable<V> {
 }
 
 impl<V> NameTable<V> {
-    /// Makes the table without names. It does not allocate.
+    /// Creates a table without names. Does not allocate.
     pub fn new(alloc: Global) -> Self
         ensures { result ≡ [] }
     {
@@ -39,14 +39,14 @@ impl<V> NameTable<V> {
         }
     }
 
-    /// The number of names.
+    /// Returns the number of names.
     pub fn len(&self) -> usize
         ensures { result ≡ length self.now }
     {
         self.values.len()
     }
 
-    /// Whether a name is there.
+    /// Returns true if the table has the name.
     pub fn contains(&self, name: &Name) -> bool
         ensures { result ≡ is_named name.now self.now }
     {
@@ -55,7 +55,7 @@ impl<V> NameTable<V> {
 }
 
 impl<V: Copy> NameTable<V> {
-    /// Returns the value of a name.
+    /// Returns the value of a name, or `None` if the table lacks the name.
     pub fn find(&self, name: &Name) -> Option<V>
         ensures { result ≡ entry_of name.now self.now }
     {
@@ -75,7 +75,7 @@ impl<V: Copy> NameTable<V> {
 }
 
 impl<V: Drop> NameTable<V> {
-    /// Puts a name after the others, where it isn't among them.
+    /// Adds a name, which the table must lack, after the others.
     pub fn add(&mut self, alloc: Global, name: &Name, value: V) -> Result<(), AllocError>
         requires { entry_of name.now self.old ≡ None }
         ensures added { OnOk result (self.new ≡ self.old ++ (name.now, value) ∷ []) }

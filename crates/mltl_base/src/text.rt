@@ -6,7 +6,7 @@ ghost use Rattle.arrayvec.specs.ArrayVec.{array_vec_len};
 use arrayvec::ArrayVec;
 use itoa::Buffer;
 
-/// Puts a piece after a text that has room for it.
+/// Appends a piece to a text that has room for it.
 pub fn add<const CAP: usize>(text: &mut ArrayVec<u8, CAP>, piece: &[u8])
     requires { array_vec_len text.old + length piece.now ≤ CAP }
     ensures items { text.new.items ≡ text.old.items ++ piece.now }
@@ -15,7 +15,7 @@ pub fn add<const CAP: usize>(text: &mut ArrayVec<u8, CAP>, piece: &[u8])
     text.try_extend_from_slice(piece).unwrap();
 }
 
-/// Puts a number after a text that has room for it.
+/// Appends a number to a text that has room for it.
 pub fn add_number<const CAP: usize>(text: &mut ArrayVec<u8, CAP>, n: u64)
     requires { array_vec_len text.old + 20 ≤ CAP }
     ensures items { text.new.items ≡ text.old.items ++ decimal n }

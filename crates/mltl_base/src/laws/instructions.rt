@@ -1,4 +1,4 @@
-//! Instructions: those of a specification unfold to its subformulas, and its program reports what it means.
+//! Laws of instructions: they unfold to the subformulas of a specification, and report its meaning.
 
 ghost use Rattle.mltl_base.specs.Atoms.{Row};
 ghost use Rattle.mltl_base.specs.Formula.{Core};
@@ -41,8 +41,8 @@ pub fn program_means_its_specification()
         reports style (outputs program) rows ≡ reports style (map (λ asked. asked.output) outs) rows }
 {}
 
-/// A program with the lists of a specification is the program of its outputs: the distinct expressions and
-/// subformulas of the formulas that its outputs unfold to are what its instructions unfold to, in their order.
+/// A program with the lists of a specification is the program of its outputs: its instructions
+/// unfold, in order, to the distinct expressions and subformulas of the formulas of these outputs.
 #[tactic(auto, using(crate::proofs::Returning::lists_return, crate::proofs::Returning::subformulas_return, crate::proofs::Returning::expressions_return, crate::proofs::Returning::tensed_return))]
 pub fn program_is_that_of_its_outputs()
     ensures tensed { (program : Observer) (outs : List Asked) → HasListsOf outs program →

@@ -1,4 +1,4 @@
-//! Known verdicts: they stay, they are settled, and they come between the best and the worst propagation delay.
+//! Laws of known verdicts: they stay, are settled, and come between the best and worst delays.
 
 ghost use Rattle.mltl_base.specs.Atoms.{Row};
 ghost use Rattle.mltl_base.specs.Formula.{Core, Formula, bpd, core, plain, wpd};
@@ -16,8 +16,9 @@ pub fn verdicts_stay()
         IsPrefix (verdicts rows p) (verdicts (rows ++ more) p) }
 {}
 
-/// A known verdict is settled: whatever rows follow, it is the meaning of the formula. Its time is that of a row, so a
-/// formula of the past, whose verdicts need no further row, has none at the number of rows or later.
+/// A known verdict is settled: whatever rows follow, it is the meaning of the formula. Its time is
+/// the time of a row, so a formula of the past, whose verdicts need no further row, has no verdict
+/// at the number of rows or later.
 #[tactic(auto, using(crate::proofs::Settling::verdict_settled, crate::proofs::Bounds::verdict_within))]
 pub fn verdicts_are_settled()
     ensures settled { (rows : List Row) (p : Formula) (t : ℕ) (v : Bool) →
@@ -26,8 +27,8 @@ pub fn verdicts_are_settled()
         slice_get (verdicts rows p) t ≡ Some v → t < length rows }
 {}
 
-/// What is settled is settled among each class of further rows that a test selects, and among the rows that fit a
-/// program.
+/// A settled verdict is settled among each class of further rows that a test selects, and among the
+/// rows that fit a program.
 #[tactic(auto, using(crate::proofs::Settling::settled_among))]
 pub fn settled_among_each_class()
     ensures tested { (test : List Row → Bool) (rows : List Row) (p : Formula) (t : ℕ) (v : Bool) →
@@ -36,7 +37,8 @@ pub fn settled_among_each_class()
         Settled rows p t v → SettledAmong (All (IsFit program)) rows p t v }
 {}
 
-/// What is known of a formula by time, which is said without lists, is what the list of its known verdicts holds.
+/// The verdicts of a formula that are known by time, defined without lists, are the list of its
+/// known verdicts.
 #[tactic(auto, using(crate::proofs::ByTime::verdicts_by_time))]
 pub fn verdicts_are_known_by_time()
     ensures by_time { (rows : List Row) (p : Formula) (t : ℕ) →
@@ -50,8 +52,8 @@ pub fn verdicts_come_in_time()
         t + wpd p < length rows → slice_get (verdicts rows p) t ≡ Some (sat rows p t) }
 {}
 
-/// The number of known verdicts lies between the number of rows less the worst delay and that less the best delay, which
-/// is that of the core form.
+/// The number of known verdicts is at least the number of rows less the worst delay, and at most
+/// the number of rows less the best delay of the core form.
 #[tactic(auto, using(crate::proofs::Bounds::frontier_at_least, crate::proofs::Bounds::frontier_at_most, crate::proofs::CoreForms::formula_at_most))]
 pub fn frontier_lies_between()
     ensures worst { (rows : List Row) (p : Formula) →

@@ -1,4 +1,4 @@
-//! Known verdicts are the longest lists of times at which strong Kleene values are known, and so are known words.
+//! Laws of longest lists: known verdicts and known words reach as far as strong Kleene values do.
 
 ghost use Rattle.mltl_base.specs.Atoms.{Row};
 ghost use Rattle.mltl_base.specs.Formula.{Formula};
@@ -24,7 +24,7 @@ pub fn contract_words_are_longest()
         IsLongestKnown (known_status rows p q) (length rows) (words rows (contract p q)) }
 {}
 
-/// There is one longest known list for what is known by time, and it depends on nothing else.
+/// There is one longest known list of values by time, and it depends on nothing else.
 #[tactic(auto, using(crate::proofs::Unique::front_longest, crate::proofs::Unique::longest_only, crate::proofs::Unique::front_equal))]
 pub fn longest_list_is_one()
     ensures some { (k : ℕ → Option Bool) (n : ℕ) → IsLongestKnown k n (known_front k n) }

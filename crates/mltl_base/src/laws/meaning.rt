@@ -1,4 +1,4 @@
-//! Meaning: it follows the table of the operators, and a core formula has that of its formula.
+//! Laws of meaning: it follows the table of the operators, and a core formula keeps it.
 
 ghost use Rattle.mltl_base.specs.Atoms.{Row};
 ghost use Rattle.mltl_base.specs.Formula.{Core, Formula, IsReduced, core, plain, wpd};
@@ -8,7 +8,7 @@ ghost use Rattle.mltl_base.specs.Table.{Holds};
 ghost use Rattle.mltl_base.specs.Verdicts.{verdicts};
 ghost use Rattle.std.specs.Prelude.{◌≡◌, ℕ, List, Decides};
 
-/// The meaning of a formula at a time is true just where the table of the operators says that the formula holds.
+/// The meaning of a formula at a time is true exactly if the table says that the formula holds.
 #[tactic(auto, using(crate::proofs::Deciding::sat_decides))]
 pub fn meaning_follows_table()
     ensures decides { (rows : List Row) (p : Formula) (t : ℕ) →
@@ -25,7 +25,7 @@ pub fn core_means_the_same()
     ensures delay { (p : Formula) → wpd (plain (core p)) ≡ wpd p }
 {}
 
-/// The intervals of a core formula run upward where those of its formula do, and it has no operator of another tense.
+/// If the intervals of a formula run upward, those in its core do too, and no tense is added.
 #[tactic(auto, using(crate::proofs::Tenses::core_ordered, crate::proofs::Tenses::core_stays_future, crate::proofs::Tenses::core_stays_past))]
 pub fn core_keeps_its_form()
     ensures ordered { (p : Formula) → IsOrdered p → IsOrdered (plain (core p)) }
@@ -33,8 +33,8 @@ pub fn core_keeps_its_form()
     ensures past { (p : Formula) → IsPast p → IsPast (plain (core p)) }
 {}
 
-/// A core form has no negation of a negation and no comparisons but those of instructions, and such a core formula is its
-/// own core form.
+/// A core form has no negation of a negation and only comparisons that instructions have, and such
+/// a core formula is its own core form.
 #[tactic(auto, using(crate::proofs::CoreForms::core_reduced, crate::proofs::CoreForms::core_stays))]
 pub fn core_is_reduced()
     ensures reduced { (p : Formula) → IsReduced (core p) }

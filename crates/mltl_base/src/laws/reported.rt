@@ -1,4 +1,4 @@
-//! Reports: words of outputs are settled, and the reports of both styles cover the known words.
+//! Laws of reports: words of outputs are settled, and reports of both styles cover the known words.
 
 ghost use Rattle.mltl_base.specs.Atoms.{Row};
 ghost use Rattle.mltl_base.specs.Reports.{AreDistinctBeside, IsRising, IsSettled, Output, delay, meaning, of_row, reports, reports_after, reports_of, told, words};
@@ -66,7 +66,7 @@ pub fn row_tells_new_words()
         IsRising k (length (words rows o)) (of_row style 0 outs rows r) }
 {}
 
-/// The reports of more rows are those of the rows, followed by those that the further rows bring.
+/// The reports of more rows are the reports of the rows, followed by what the further rows bring.
 #[tactic(auto, using(crate::proofs::Telling::reports_append, crate::proofs::Telling::reports_push))]
 pub fn reports_follow_rows()
     ensures appended { (style : Form) (outs : List Output) (rows more : List Row) →
