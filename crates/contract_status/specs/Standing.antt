@@ -12,7 +12,7 @@ use Rattle.pt_boxes.specs.Standing as past
 use Rattle.contract_status.specs.declared.engines.Engines.{Engines}
 use Rattle.contract_status.specs.Open.{ArePlaced, GivesFirst, IsGiven}
 
--- both engines of the program have taken these rows, n in number, and each output has its next time
+-- both engines of the program have taken these n rows, and each output has its next time
 pub record StandFor (program : Program) (rows : List Row) (n : ℕ) (ft : Ft) (pt : Pt)
     (next_times : List ℕ) : Type 0 where
   pub future : future.FtHasTaken program rows ft
@@ -20,12 +20,12 @@ pub record StandFor (program : Program) (rows : List Row) (n : ℕ) (ft : Ft) (p
   pub placed : ArePlaced program rows next_times
   pub count : length rows ≡ n
 
--- the same of both engines at once
+-- both engines at once have taken these rows, and each output has its next time
 abbrev pub EnginesStandFor : Program → List Row → Engines → List ℕ → Type 0
 EnginesStandFor program rows engines next_times =
     StandFor program rows engines.rows engines.ft.now engines.pt.now next_times
 
--- The first report that was open after n rows was given, and the others still are; where none was open, nothing
+-- The first report that was open after n rows was returned, and the other reports are still open; if none was open, nothing
 -- changed.
 pub record GivesNext (style : Style) (program : Program) (n : ℕ) (ft : Ft) (pt : Pt) (result : Option Report)
     (before after : List ℕ) : Type 0 where

@@ -1,9 +1,9 @@
-//! Where the search for open reports goes on, after the same rows.
+//! The place from which the search for open reports goes on, after the same rows.
 
 use crate::engines::Stretch;
 
-/// The outputs before `out` were all reported, and `stretch`, where there is one, is what is known of this output
-/// from its next time on.
+/// A place in the outputs: the outputs before `out` were all reported, and `stretch`, if there is
+/// one, is the longest stretch of this output from its next time on.
 #[derive(Clone, Copy)]
 pub struct Cursor {
     pub out: usize,
@@ -17,7 +17,7 @@ impl Cursor {
     ghost use Rattle.contract_status.specs.declared.engines.Stretch.{Stretch as Found};
     ghost use Rattle.contract_status.specs.Cursors.{IsCursor};
 
-    /// The search begins at the first output.
+    /// Makes a cursor at the first output.
     pub fn start() -> Cursor
         ensures { (program : Program) (rows : List Row) (next_times : List ℕ)
             → IsCursor program rows next_times result }
@@ -28,8 +28,8 @@ impl Cursor {
         }
     }
 
-    /// Continues the search after a report of an output up to `time`, after `rows` rows: at the next output where no
-    /// further time can be known, else at this one, with what is left of the run.
+    /// Continues the search after a report of an output up to `time`, after `rows` rows: at the
+    /// next output if no further time can be known, else at this one, with the rest of the stretch.
     pub fn move_after(&mut self, out: usize, time: u64, stretch: Stretch, rows: u64)
         requires within { out + 1 < 2 ^ 64 }
         requires early { time < rows }
@@ -52,7 +52,7 @@ impl Cursor {
         }
     }
 
-    /// Drops the stretch. Where there is none, as mostly, nothing is written.
+    /// Drops the stretch. If there is none, as is usual, nothing is written.
     #[inline(always)]
     fn forget(&mut self)
         ensures out { self.new.out ≡ self.old.out }

@@ -1,5 +1,5 @@
-//! What both engines show of the outputs. These calls are inlined, so that a stretch stays in registers: through memory it
-//! would take longer than to find it.
+//! Verdicts and words of the outputs in both engines. These calls are inlined, so that a stretch
+//! stays in registers: passing it through memory would take longer than finding it.
 
 ghost use Rattle.std.specs.Prelude.{◌≡◌, ℕ, ◌+◌, ◌^◌, ◌<◌, ◌≤◌, true as holds, List, length, slice_get, slice_index, Some};
 ghost use Rattle.mltl_base.specs.Atoms.{Row};
@@ -23,7 +23,8 @@ pub struct Engines<'a> {
     pub rows: u64,
 }
 
-/// A word that an output has at all times from some time up to `last`, and not at the time after that.
+/// A word that an output has at all times from some time up to `last`, and not at the time after
+/// it.
 #[derive(Clone, Copy)]
 pub struct Stretch {
     pub last: u64,
@@ -34,7 +35,8 @@ impl Stretch {
     ghost use Rattle.mltl_base.specs.declared.report.Word.{Word as Told};
     ghost use Rattle.contract_status.specs.Stretches.{Covers, IsLongestStretch};
 
-    /// The last time that the first report from `from` on covers, where this is the longest stretch from there.
+    /// Returns the last time that the first report from `from` on covers, if this is the longest
+    /// stretch from there.
     #[inline(always)]
     pub fn last_covered(self, style: Style, from: u64) -> u64
         ensures covers { (told : List Told) → IsLongestStretch told from self.last self.word
@@ -53,7 +55,8 @@ impl Engines<'_> {
     ghost use Rattle.contract_status.specs.Open.{AreKnown};
     ghost use Rattle.contract_status.specs.declared.engines.Stretch.{Stretch as Found};
 
-    /// The verdict of an instruction at a time, and the last time up to which it stays the same.
+    /// Returns the verdict of an instruction at a time, and the last time up to which it stays the
+    /// same.
     #[inline(always)]
     fn verdicts_from(&self, engine: Engine, i: u32, from: u64) -> Seen
         requires readable { CanRead self.now engine i from }
@@ -66,7 +69,7 @@ impl Engines<'_> {
         }
     }
 
-    /// The verdict of a past-time instruction at a time that is not before that of the last row.
+    /// Returns the verdict of a past-time instruction at a time that isn't before the last row's.
     #[inline(always)]
     fn last_verdict(&self, i: u32, from: u64) -> Seen
         requires readable { CanRead self.now past i from }
@@ -80,7 +83,7 @@ impl Engines<'_> {
         }
     }
 
-    /// The word of a formula at a time, and the last time up to which it stays the same.
+    /// Returns the word of a formula at a time, and the last time up to which it stays the same.
     #[inline(always)]
     fn formula_from(&self, engine: Engine, i: u32, from: u64) -> Option<Stretch>
         requires readable { CanRead self.now engine i from }
@@ -100,8 +103,8 @@ impl Engines<'_> {
         }
     }
 
-    /// The status of a contract of two instructions at a time, and the last time up to which it stays the same. Where the
-    /// first is false, the second needn't be known.
+    /// Returns the status of a contract of two instructions at a time, and the last time up to
+    /// which it stays the same. If the first is false, the second needn't be known.
     #[inline(always)]
     fn contract_from(&self, engine: Engine, i: u32, j: u32, from: u64) -> Option<Stretch>
         requires first { CanRead self.now engine i from }
@@ -119,7 +122,7 @@ impl Engines<'_> {
         }
     }
 
-    /// The status of a contract whose first instruction is true from a time up to `last`.
+    /// Returns the status of a contract whose first instruction is true from a time up to `last`.
     #[inline(always)]
     fn guarantee_from(&self, engine: Engine, j: u32, from: u64, last: u64) -> Option<Stretch>
         requires readable { CanRead self.now engine j from }
@@ -142,7 +145,7 @@ impl Engines<'_> {
         }
     }
 
-    /// The word of an output at a time, and the last time up to which it stays the same.
+    /// Returns the word of an output at a time, and the last time up to which it stays the same.
     #[inline(always)]
     fn stretch_from(&self, out: &Out, from: u64) -> Option<Stretch>
         requires readable { CanReport self.now out.now from }
@@ -155,8 +158,8 @@ impl Engines<'_> {
         }
     }
 
-    /// The first output from `first` on with a known word at its next time, and the longest stretch of it. Its steps are the
-    /// outputs that it looks at.
+    /// Returns the first output from `first` on with a known word at its next time, and the longest
+    /// stretch of it. Its steps are the outputs that it looks at.
     #[inline(always)]
     fn first_open<L: Ledger>(
         &self,
@@ -184,7 +187,8 @@ impl Engines<'_> {
         None
     }
 
-    /// The first output with a known word at its next time, and the longest stretch of it; the search goes on at a cursor.
+    /// Returns the first output with a known word at its next time, and the longest stretch of it.
+    /// The search goes on at a cursor.
     #[inline(always)]
     pub fn next_open<L: Ledger>(
         &self,

@@ -13,9 +13,10 @@ use mltl_base::{Report, Style};
 use obs_verify::Checked;
 use std::sync::ledger::Ledger;
 
-/// Gives the first report that the outputs' next times leave open, and moves its output's next time past it. `None`, and no
-/// change of these times, where none is open. The search goes on at the cursor, which is past all outputs then, and has no
-/// stretch, since the search would have given that. Its steps are itself and the outputs that it looks at.
+/// Returns the first report that the outputs' next times leave open, and moves its output's next
+/// time past it. If none is open, returns `None`, and no next time changes. The search goes on at
+/// the cursor. After `None` the cursor is past all outputs, and has no stretch, since the search
+/// would have returned it. Its steps are itself and the outputs that it looks at.
 #[inline(always)]
 pub fn tell_first<L: Ledger>(
     style: Style,

@@ -1,4 +1,5 @@
-//! What the definitions of open reports say together: each law is the contract of a function with an empty body.
+//! Laws that follow from the definitions of open reports. Each law is the contract of a function
+//! with an empty body.
 
 ghost use Rattle.std.specs.Prelude.{◌≡◌, ◌↔◌, ℕ, ◌+◌, ◌≤◌, List, [], ◌∷◌, ◌++◌, Some, Contains, length, slice_get, slice_index};
 ghost use Rattle.mltl_base.specs.declared.program.Out.{Out as Reported};
@@ -13,21 +14,23 @@ ghost use Rattle.ft_engine.specs.declared.Ft.{Ft};
 ghost use Rattle.ft_engine.specs.Standing.{FtHasTaken, lowest_at, queue_width};
 ghost use Rattle.contract_status.specs.Open.{ArePlaced, known_counts, known_counts_of, left_open, open_of};
 
-/// Nothing is open in the one style exactly where nothing is in the other.
+/// Nothing is open in one style if and only if nothing is open in the other.
 #[tactic(auto, using(crate::proofs::Opening::same_end))]
 pub fn styles_end_together()
     ensures { (rows : List Row) (k : ℕ) (outs : List Output) (next_times : List ℕ) →
         (left_open each rows k outs next_times ≡ []) ↔ (left_open runs rows k outs next_times ≡ []) }
 {}
 
-/// Where all known words were reported before a row, what is open after it are the reports of the row.
+/// If all known words were reported before a row, the reports that are open after it are the
+/// reports of the row.
 #[tactic(auto, using(crate::proofs::Opening::open_after_row))]
 pub fn row_opens_its_reports()
     ensures { (style : Form) (k : ℕ) (outs : List Output) (rows : List Row) (row : Row) →
         left_open style (rows ++ row ∷ []) k outs (known_counts rows outs) ≡ of_row style k outs rows row }
 {}
 
-/// Nothing is open exactly where the next times are the numbers of known words, and these are next times after the next row.
+/// Nothing is open if and only if the next times are the numbers of known words. These are valid
+/// next times after the next row.
 #[tactic(auto, using(crate::proofs::Draining::drained_counts))]
 pub fn drained_places_are_known_counts()
     ensures counts { (style : Form) (program : Observer) (rows : List Row) (next_times : List ℕ) →
@@ -38,8 +41,8 @@ pub fn drained_places_are_known_counts()
         → ArePlaced program (rows ++ row ∷ []) (known_counts_of program rows) }
 {}
 
-/// Where nothing is open after n rows, an output's next time is at least n less the width of each future-time instruction
-/// that it reports.
+/// If nothing is open after n rows, an output's next time is at least n less the width of each
+/// future-time instruction that it reports.
 #[tactic(auto, using(crate::proofs::Draining::drained_wide))]
 pub fn drained_places_are_wide()
     ensures { (program : Observer) (rows : List Row) (k g : ℕ) (output : Reported) →
@@ -47,8 +50,8 @@ pub fn drained_places_are_wide()
         → length rows ≤ slice_index (known_counts_of program rows) k + queue_width program g }
 {}
 
-/// The engine keeps the verdicts that an output reads: from its next time on, and so, where nothing was open before a row,
-/// from the number of words known before the row on.
+/// The engine keeps the verdicts that an output reads from its next time on. So, if nothing was
+/// open before a row, it keeps them from the number of words known before the row on.
 #[tactic(auto, using(crate::proofs::Draining::entries_kept, crate::proofs::Draining::entries_kept_after_row))]
 pub fn reads_are_kept()
     ensures placed { (program : Observer) (rows : List Row) (ft : Ft) (next_times : List ℕ)

@@ -1,4 +1,5 @@
-//! Reports of the outputs of a program: which are open after some rows, one after another, and how they are written.
+//! Reports of the outputs of a program: the reports that are open after some rows, one after
+//! another, and their lines.
 #![tactic(auto)]
 
 mod cursor;

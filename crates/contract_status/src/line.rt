@@ -12,7 +12,7 @@ use mltl_base::text::add;
 use mltl_base::{Report, Word};
 use obs_verify::Checked;
 
-/// The line of a report: the name of its output, its time and its word, with a newline.
+/// Returns the line of a report: the name of its output, its time and its word, with a newline.
 pub fn line_of(report: &Report, checked: &Checked) -> ArrayVec<u8, 128>
     requires exists { report.now.out < length checked.now.outs }
     requires early { report.now.time < TIME_END }
@@ -26,8 +26,9 @@ pub fn line_of(report: &Report, checked: &Checked) -> ArrayVec<u8, 128>
     text
 }
 
-/// Writes the line of a report at the end of the room, and returns where it starts. A line has at most 88 bytes: a name, a
-/// time of at most 13 digits, a word and three signs. It is written from its last byte on, so that no digit is moved.
+/// Writes the line of a report at the end of the room, and returns its start. A line has at most 88
+/// bytes: a name, a time of at most 13 digits, a word and three signs. It is written from its last
+/// byte on, so that no digit is moved.
 #[inline(always)]
 pub fn write_line(room: &mut [u8; 128], report: &Report, checked: &Checked) -> usize
     requires exists { report.now.out < length checked.now.outs }
@@ -44,8 +45,8 @@ pub fn write_line(room: &mut [u8; 128], report: &Report, checked: &Checked) -> u
     write_bytes(room, colon, out.name().bytes())
 }
 
-/// Writes a word and a newline at the end of the room, and returns where the word starts. The words of formulas have one
-/// byte.
+/// Writes a word and a newline at the end of the room, and returns the start of the word. The words
+/// of formulas have one byte.
 #[inline(always)]
 fn write_word(room: &mut [u8; 128], word: Word) -> usize
     ensures written { drop result room.new ≡ word_text word ++ codes "\n" }
@@ -60,7 +61,7 @@ fn write_word(room: &mut [u8; 128], word: Word) -> usize
     }
 }
 
-/// Writes a byte before what begins at `end`, and returns where it is.
+/// Writes a byte just before `end`, and returns its place.
 #[inline(always)]
 fn write_byte(room: &mut [u8; 128], end: usize, byte: u8) -> usize
     requires some { 0 < end }
@@ -73,7 +74,7 @@ fn write_byte(room: &mut [u8; 128], end: usize, byte: u8) -> usize
     start
 }
 
-/// Writes bytes before what begins at `end`, and returns where they start.
+/// Writes bytes just before `end`, and returns their start.
 #[inline(always)]
 fn write_bytes(room: &mut [u8; 128], end: usize, bytes: &[u8]) -> usize
     requires fits { length bytes.now ≤ end }

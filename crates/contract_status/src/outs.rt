@@ -36,7 +36,8 @@ impl Outs {
     ghost use Rattle.contract_status.specs.Open.{ArePlaced, known_counts_of, open_of};
     ghost use Rattle.contract_status.specs.Standing.{GivesNext, StandFor};
 
-    /// The outputs of a program before the first row, with 0 for each next time. Allocates all its memory.
+    /// Makes the outputs of a program before the first row, with 0 for each next time. Allocates
+    /// all its memory.
     pub fn make(alloc: Global, checked: &Checked) -> Result<Outs, AllocError>
         ensures start { IfOk result (λ outs. outs ≡ replicate (length checked.now.outs) 0) }
         ensures drained { IfOk result (λ outs. outs ≡ known_counts_of checked.now []) }
@@ -53,7 +54,8 @@ impl Outs {
         self.times.as_mut_slice().fill(0);
     }
 
-    /// The first report that is open after `n` rows, one for each time. `None` exactly where none is open.
+    /// Returns the first report that is open after `n` rows, one for each time, or `None` if none
+    /// is open.
     pub fn next<L: Ledger>(
         &mut self,
         checked: &Checked,
@@ -70,8 +72,8 @@ impl Outs {
         self.next_at(Style::Each, &mut Cursor::start(), checked, ft, pt, n, steps)
     }
 
-    /// The first report that is open after `n` rows, one for each longest stretch of one word. `None` exactly where
-    /// none is open.
+    /// Returns the first report that is open after `n` rows, one for each longest stretch of one
+    /// word, or `None` if none is open.
     pub fn next_run<L: Ledger>(
         &mut self,
         checked: &Checked,
@@ -88,8 +90,9 @@ impl Outs {
         self.next_at(Style::Runs, &mut Cursor::start(), checked, ft, pt, n, steps)
     }
 
-    /// The first report that is open after `n` rows, in a style. The search goes on at the cursor of these rows. Its steps are
-    /// itself and the outputs that it looks at, of which the next search looks at the last one alone again.
+    /// Returns the first report that is open after `n` rows, in a style. The search goes on at the
+    /// cursor of these rows. Its steps are itself and the outputs that it looks at. The next search
+    /// looks at none of them again but the last.
     #[inline(always)]
     pub fn next_at<L: Ledger>(
         &mut self,
@@ -117,7 +120,7 @@ impl Outs {
         tell_first(style, checked, &engines, times, cursor, steps)
     }
 
-    /// Whether no report is open after `n` rows, in either style.
+    /// Returns true if no report is open after `n` rows, in either style.
     pub fn drained<L: Ledger>(
         &self,
         checked: &Checked,
@@ -135,8 +138,9 @@ impl Outs {
         self.drained_at(Cursor::start(), checked, ft, pt, n, steps)
     }
 
-    /// Whether no report is open after `n` rows, in either style. It looks at no output before the cursor's, of these rows, so at
-    /// none where `next_at` gave `None`. Its steps are the outputs that it looks at.
+    /// Returns true if no report is open after `n` rows, in either style. It looks at no output
+    /// before the cursor of these rows, so at none if `next_at` returned `None`. Its steps are the
+    /// outputs that it looks at.
     #[inline(always)]
     pub fn drained_at<L: Ledger>(
         &self,
