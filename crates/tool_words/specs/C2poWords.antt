@@ -1,4 +1,4 @@
--- What the arguments of `c2po` request.
+-- Requests of the arguments of `c2po`.
 
 use Rattle.std.specs.Prelude.{Bool, true, false, ◌||◌, if◌then◌else◌, Option, Some, is_some, unwrap_or, option_map}
 use Rattle.std.specs.Prelude.{List, [], ◌∷◌, codes}
@@ -29,7 +29,7 @@ pub record CompileAsked : Type 0 where
   pub simplify : Bool
   pub spec : Text
 
--- what the arguments may request; an upgrade and a text have the file that is written, and the program
+-- a request of the arguments; an upgrade and a text have the file that is written, and the program
 pub data C2poRequest : Type 0 where
   help : C2poRequest
   compile : CompileAsked → C2poRequest
@@ -41,11 +41,11 @@ pub data C2poRequest : Type 0 where
 abbrev pub output_file : List Row → Option Text
 output_file found = first_of (codes "output") found
 
--- the same, or `spec.bin`
+-- the file of `-o`, or `spec.bin` if there is none
 abbrev pub named_or_default : List Row → Text
 named_or_default found = unwrap_or (output_file found) (codes "spec.bin")
 
--- `--table` goes to a file only where `-o` names it
+-- a compilation of a specification; `--table` goes to a file only if `-o` names it
 abbrev pub compile_in : List Row → Text → CompileAsked
 compile_in found spec = record {
   header = first_of (codes "header") found;
@@ -55,30 +55,30 @@ compile_in found spec = record {
   spec = spec;
 }
 
--- an option is given that serves compiling alone
+-- an option for compiling alone is among the arguments
 abbrev pub is_compiling : List Row → Bool
 is_compiling found =
     is_some (first_of (codes "header") found) || (is_set (codes "table") found || is_set (codes "simplify") found)
 
--- `--upgrade` and `--show`, in this order, exclude each other and what serves compiling alone
+-- `--upgrade` and `--show`, in this order, exclude each other and the options for compiling alone
 abbrev pub request_by : Bool → Bool → List Row → Text → C2poRequest
 request_by false false found file = compile (compile_in found file)
 request_by true false found file = if is_compiling found then nothing else upgrade (named_or_default found) file
 request_by false true found file = if is_compiling found then nothing else show (output_file found) file
 request_by true true found file = nothing
 
--- what the arguments ask for that clap found; a file has to be there
+-- the request of the matches that clap found; a file has to be named
 abbrev pub c2po_request_in : List Row → C2poRequest
 c2po_request_in found =
     option_map_or (request_by (is_set (codes "upgrade") found) (is_set (codes "show") found) found)
     (first_of (codes "file") found) nothing
 
--- Help where the only argument is `--help` or `-h`. Otherwise what the command finds in the arguments; nothing where
--- they are invalid.
+-- Help if the only argument is `--help` or `-h`. Otherwise the request of the command, or nothing if the arguments are
+-- invalid.
 abbrev pub ask_of_texts : List Text → C2poRequest
 ask_of_texts words = if is_help words then help else option_map_or c2po_request_in (parsed_rows command words) nothing
 
--- arguments are invalid where one of them isn't UTF-8
+-- the request of the arguments, which are invalid if one of them isn't UTF-8
 abbrev pub ask : List Text → C2poRequest
 ask words = if are_texts words then ask_of_texts words else nothing
 
@@ -93,7 +93,7 @@ compile_of c =
       spec = c.spec.now;
     }
 
--- what a result requests
+-- the request of a result
 abbrev pub asked_of : c2po_ask.C2poAsk → C2poRequest
 asked_of c2po_ask.TheVariants.Help = help
 asked_of (c2po_ask.TheVariants.Compile c) = compile (compile_of c)

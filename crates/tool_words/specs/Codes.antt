@@ -6,8 +6,8 @@ use Rattle.tool_words.specs.declared.status.Status.TheVariants.{Done, Helped, Us
 use Rattle.tool_words.specs.declared.status.Status.TheVariants.{BadTrace, TooLong, TextTooLong, OpenFault, ReadFault}
 use Rattle.tool_words.specs.declared.status.Status.TheVariants.{WriteFault, Memory}
 
--- 0 for success, 1 for the arguments, 2 for a specification, 3 for a program file, 4 for a header or a trace, 5 for a
--- text or a trace past its limit, 6 for opening and reading, 7 for writing, 8 for memory
+-- the exit code: 0 for success, 1 for the arguments, 2 for a specification, 3 for a program file, 4 for a header or a trace,
+-- 5 for a text or a trace past its limit, 6 for opening and reading, 7 for writing, 8 for memory
 abbrev pub code_of : Status → ℕ
 code_of Done = 0
 code_of Helped = 0

@@ -1,4 +1,4 @@
--- How a program ends: with the code of a run, or at once.
+-- The ending of a program: with the code of a run, or at once.
 
 use Rattle.std.specs.Prelude.{◌≡◌, ◌≢◌, ℕ, Option, Result, Ok, Err, List}
 use Rattle.std.specs.declared.alloc.AllocError.{AllocError}
@@ -17,13 +17,13 @@ pub record EndsByRun (Run : Status → Type 0) (code : ℕ) (faults now : Place 
   pub cause : (p : Place) → p ≢ place.Err → CauseAt status p (faults p) (now p)
   pub run : Run status
 
--- it ends with the code of out of memory, and nothing was called
+-- the program ends with the code of out of memory, and nothing was called
 pub record EndsAtOnce (code : ℕ) (faults now : Place → ℕ) (before after : Option (List Event)) : Type 0 where
   pub code_is : code ≡ code_of Memory
   pub no_fault : now ≡ faults
   pub no_call : after ≡ before
 
--- the program ends by a run with its arguments, or at once, where there was no memory for them
+-- the program ends by a run with its arguments, or at once if there was no memory for them
 abbrev pub EndsBy : (List (List ℕ) → Status → Type 0) → Result (List (List ℕ)) AllocError → ℕ → (Place → ℕ)
     → (Place → ℕ) → Option (List Event) → Option (List Event) → Type 0
 EndsBy Run (Ok words) code faults now before after = EndsByRun (Run words) code faults now

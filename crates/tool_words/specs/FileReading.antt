@@ -1,4 +1,4 @@
--- What reading a whole file logs.
+-- The log of reading a whole file.
 
 use Rattle.std.specs.Prelude.{◌≡◌, ℕ, ◌<◌, ◌≤◌, ◌⊎◌, true, false, Result, Ok, Err, List, [], ◌∷◌, length, Vec}
 use Rattle.std.specs.declared.alloc.Global.{Global}
@@ -9,7 +9,8 @@ use Rattle.tool_io.specs.Log.{Event, Attached, Missed}
 use Rattle.tool_io.specs.Whole.{Draws}
 use Rattle.tool_words.specs.declared.status.Status as status
 
--- The bytes of a file, or why there are none: it was read at this place under this name, to this limit.
+-- The result is the bytes of a file, or the fault, after this log: the file was read at this place under this name, up to
+-- this limit.
 abbrev pub FileLog : Result (Vec ℕ Global) status.Status → place.Place → ℕ → List ℕ → List Event → Type 0
 FileLog (Ok bytes) p limit name events =
     (log : List Event) × (events ≡ Attached p name ∷ log) × Draws p bytes.items true log × (length bytes.items ≤ limit)

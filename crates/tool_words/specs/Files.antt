@@ -10,12 +10,12 @@ use Rattle.obs_binary.specs.declared.file_fault.FileFault.{FileFault}
 use Rattle.obs_binary.specs.declared.file_fault.FileFault.TheVariants as file_fault
 use Rattle.tool_words.specs.declared.status.Status as status
 
--- where it is read
+-- the place of the file
 abbrev pub file_place : FileKind → Place
 file_place Spec = at.Spec
 file_place Program = at.Program
 
--- the most bytes that it may have
+-- the most bytes that the file may have
 abbrev pub file_limit : FileKind → ℕ
 file_limit Spec = MAX_SPEC_BYTES
 file_limit Program = MAX_PROGRAM_BYTES

@@ -3,7 +3,7 @@
 use Rattle.std.specs.Prelude.{◌≡◌, ◌≢◌, ◌⊎◌, ℕ, Bool, true, false, List, [], ◌∷◌}
 use Rattle.tool_io.specs.Cutting.{is_long}
 
--- whether the first line is too long
+-- the first line is too long
 abbrev pub begins_long : List (List ℕ) → Bool
 begins_long [] = false
 begins_long (raw ∷ raws) = is_long raw

@@ -24,7 +24,7 @@ usage tool.TheVariants.C2po =
 usage tool.TheVariants.R2u2 =
     codes "usage: r2u2 [--source] [--runs] [--timed] [--mission-time N] FILE [TRACE] | r2u2 --demo SEED,ROWS\n"
 
--- what is wrong with a line of a trace; a column counts from 1 here
+-- the message of a fault of a line of a trace; a column counts from 1 here
 abbrev pub trace_text : trace.TraceWhy → List ℕ
 trace_text trace.TheVariants.Width = codes "too few fields"
 trace_text (trace.TheVariants.NotWhole column) = codes "not a whole number in column " ++ decimal (column + 1)
@@ -35,7 +35,7 @@ trace_text (trace.TheVariants.Twice name) = twice_text name
 trace_text trace.TheVariants.Stamp = codes "bad time stamp"
 trace_text trace.TheVariants.Order = codes "times not rising"
 
--- what a place holds
+-- the name of a place
 abbrev pub place_name : place.Place → List ℕ
 place_name place.TheVariants.Spec = codes "specification"
 place_name place.TheVariants.Header = codes "header"
@@ -44,7 +44,7 @@ place_name place.TheVariants.Trace = codes "trace"
 place_name place.TheVariants.Out = codes "output"
 place_name place.TheVariants.Err = codes "error output"
 
--- what a status says after the program's name
+-- the text of a status after the program's name
 abbrev pub status_text : status.Status → List ℕ
 status_text status.TheVariants.Done = []
 status_text status.TheVariants.Helped = []
@@ -60,7 +60,7 @@ status_text (status.TheVariants.ReadFault p) = codes "cannot read " ++ place_nam
 status_text (status.TheVariants.WriteFault p) = codes "cannot write " ++ place_name p
 status_text status.TheVariants.Memory = compile_fault_text compile.TheVariants.Memory
 
--- the line with the program's name
+-- the line with the program's name and the text of a status
 abbrev pub message_line : tool.Tool → status.Status → List ℕ
 message_line t s = tool_name t ++ codes ": " ++ status_text s ++ codes "\n"
 
@@ -71,7 +71,7 @@ message t status.TheVariants.Helped = usage t
 message t status.TheVariants.Usage = usage t
 message t s = message_line t s
 
--- what goes to the user on the error output: the message, but nothing where help was given
+-- the text for the user on the error output: the message, or nothing after help
 abbrev pub told_to_user : tool.Tool → status.Status → List ℕ
 told_to_user t status.TheVariants.Helped = []
 told_to_user t s = message t s

@@ -1,4 +1,4 @@
--- What the arguments of `r2u2` request.
+-- Requests of the arguments of `r2u2`.
 
 use Rattle.std.specs.Prelude.{ℕ, ◌≤◌, Bool, ◌&&◌, ◌==◌, not, if◌then◌else◌, Option, Some, is_some, unwrap_or}
 use Rattle.std.specs.Prelude.{option_map, option_and_then, List, [], ◌∷◌, codes, ⊤}
@@ -31,27 +31,27 @@ pub record RunAsked : Type 0 where
   pub file : Text
   pub trace : Text
 
--- what the arguments may request; a demo has its seed and its number of rows
+-- a request of the arguments; a demo has its seed and its number of rows
 pub data R2u2Request : Type 0 where
   help : R2u2Request
   run : RunAsked → R2u2Request
   demo : ℕ → ℕ → R2u2Request
   nothing : R2u2Request
 
--- the file is a specification where `--source` is given, else a program
+-- the file is a specification if `--source` is among the arguments, else a program
 abbrev pub kind_in : List Row → FileKind
 kind_in found = if is_set (codes "source") found then Spec else Program
 
--- reports for stretches are asked for by `--runs`
+-- reports are for stretches if `--runs` is among the arguments, else for each time
 abbrev pub style_in : List Row → Style
 style_in found = if is_set (codes "runs") found then Runs else Each
 
--- the number of `--mission-time`; without one the greatest that there is, or the usual one where `--timed` is given
+-- the number of `--mission-time`; without it the greatest mission time, or the usual one if `--timed` is among the arguments
 abbrev pub mission_in : List Row → Option ℕ
 mission_in found = option_map_or (word_value 13 1 MAX_MISSION) (first_of (codes "mission-time") found)
     (Some (if is_set (codes "timed") found then TIMED_MISSION else MAX_MISSION))
 
--- the run over a file, where an absent trace is `-`
+-- the run over a file, with `-` for an absent trace
 abbrev pub run_with : List Row → Text → ℕ → RunAsked
 run_with found file mission = record {
   kind = kind_in found;
@@ -62,40 +62,40 @@ run_with found file mission = record {
   trace = unwrap_or (first_of (codes "trace") found) (codes "-");
 }
 
--- a run needs a file, and a mission time that can be read
+-- a run, if a file is named and the mission time can be read
 abbrev pub run_in : List Row → Option RunAsked
 run_in found =
     option_and_then (λ file. option_map (run_with found file) (mission_in found)) (first_of (codes "file") found)
 
--- no file is named, so no trace either, and no option but `--demo`
+-- no file is named, so no trace either, and there is no option but `--demo`
 abbrev pub is_demo_alone : List Row → Bool
 is_demo_alone found =
     not (is_set (codes "source") found) && (not (is_set (codes "runs") found) && (not (is_set (codes "timed") found)
     && (not (is_some (first_of (codes "mission-time") found)) && not (is_some (first_of (codes "file") found)))))
 
--- a demo, where both its seed and its number of rows could be read
+-- a demo, if both its seed and its number of rows could be read
 abbrev pub demo_with : Option ℕ → Option ℕ → R2u2Request
 demo_with (Some seed) (Some rows) = demo seed rows
 demo_with seed rows = nothing
 
--- SEED,ROWS: two numbers around the first comma
+-- the demo of SEED,ROWS: two numbers around the first comma
 abbrev pub demo_in : Text → R2u2Request
 demo_in word =
     demo_with (word_value 10 0 4294967295 (before_first (λ b. b == 44) word))
     (word_value 10 1 10000000 (after_first (λ b. b == 44) word))
 
--- what the arguments ask for that clap found
+-- the request of the matches that clap found
 abbrev pub r2u2_request_in : List Row → R2u2Request
 r2u2_request_in found =
     option_map_or (λ word. if is_demo_alone found then demo_in word else nothing) (first_of (codes "demo") found)
     (option_map_or run (run_in found) nothing)
 
--- Help where the only argument is `--help` or `-h`. Otherwise what the command finds in the arguments; nothing where
--- they are invalid.
+-- Help if the only argument is `--help` or `-h`. Otherwise the request of the command, or nothing if the arguments are
+-- invalid.
 abbrev pub ask_of_texts : List Text → R2u2Request
 ask_of_texts words = if is_help words then help else option_map_or r2u2_request_in (parsed_rows command words) nothing
 
--- arguments are invalid where one of them isn't UTF-8
+-- the request of the arguments, which are invalid if one of them isn't UTF-8
 abbrev pub ask : List Text → R2u2Request
 ask words = if are_texts words then ask_of_texts words else nothing
 
@@ -111,14 +111,14 @@ run_of r =
       trace = r.trace.now;
     }
 
--- what a result requests
+-- the request of a result
 abbrev pub asked_of : r2u2_ask.R2u2Ask → R2u2Request
 asked_of r2u2_ask.TheVariants.Help = help
 asked_of (r2u2_ask.TheVariants.Run r) = run (run_of r)
 asked_of (r2u2_ask.TheVariants.Demo seed rows) = demo seed rows
 asked_of r2u2_ask.TheVariants.Nothing = nothing
 
--- a mission time is from 1 to the greatest that there is, and a demo has from 1 to 10,000,000 rows
+-- a mission time is from 1 to the greatest mission time, and a demo has from 1 to 10,000,000 rows
 abbrev pub IsInBounds : r2u2_ask.R2u2Ask → Type 0
 IsInBounds (r2u2_ask.TheVariants.Run r) = (1 ≤ r.mission) × (r.mission ≤ MAX_MISSION)
 IsInBounds (r2u2_ask.TheVariants.Demo seed rows) = (1 ≤ rows) × (rows ≤ 10000000)

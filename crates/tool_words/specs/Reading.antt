@@ -1,4 +1,4 @@
--- How the arguments of both commands are read: help, the arguments that a command takes, flags and numbers.
+-- Parts of the arguments of both commands: help, the arguments that a command takes, flags and numbers.
 
 use Rattle.std.specs.Prelude.{ℕ, Bool, true, false, ◌&&◌, ◌||◌, if◌then◌else◌, nat_lt, nat_le, Option, Some, None, List}
 use Rattle.std.specs.Prelude.{[], ◌∷◌, length, codes}
@@ -24,7 +24,7 @@ flag name = record (new_rule name) { long = Some name; action = Some SetTrue }
 abbrev pub option : Text → Rule
 option name = record (new_rule name) { long = Some name }
 
--- a value that is given by its place
+-- a positional argument
 abbrev pub positional : Text → Rule
 positional name = new_rule name
 
@@ -36,24 +36,24 @@ command_of name rules =
       subs = [];
     }
 
--- what clap finds in the arguments, where its parse has no fault
+-- the matches that clap finds in the arguments, if its parse has no fault
 abbrev pub parsed_rows : App → List Text → Option (List Row)
 parsed_rows app words = if is_empty (fault_of app words) then Some (matches_of app words) else None
 
--- the same of a parse
+-- the matches of a parse
 abbrev pub rows : ArgMatches → List Row
 rows m = rows_of (found_of m)
 
--- the flag is given
+-- the flag is among the arguments
 abbrev pub is_set : Text → List Row → Bool
 is_set name found = option_map_or (λ value. bytes_eq value (codes "true")) (first_of name found) false
 
--- the argument consists of one to `most` decimal digits, and its value is from `least` to `greatest`
+-- the argument consists of one to `digits` decimal digits, and its value is from `least` to `greatest`
 abbrev pub is_number : ℕ → ℕ → ℕ → Text → Bool
 is_number digits least greatest word = all_ascii_digits word && (nat_lt 0 (length word) && (nat_le (length word) digits
     && (nat_le least (digits_value 10 word) && nat_le (digits_value 10 word) greatest)))
 
--- the value of such a word
+-- the value of a word that is such a number
 abbrev pub word_value : ℕ → ℕ → ℕ → Text → Option ℕ
 word_value digits least greatest word =
     if is_number digits least greatest word then Some (digits_value 10 word) else None

@@ -12,7 +12,7 @@ compile_status (compile_fault.Refused line refusal) = Refused line refusal
 compile_status (compile_fault.BadHeader why) = BadHeader why
 compile_status compile_fault.Memory = Memory
 
--- what was found, with the status of its fault
+-- the result, with the status of its fault
 abbrev pub with_status : {T E : Type 0} → (E → Status) → Result T E → Result T Status
 with_status status (Ok value) = Ok value
 with_status status (Err fault) = Err (status fault)

@@ -1,4 +1,4 @@
--- What a program prints for its user: help on the output, and its message on the error output.
+-- Output for the user of a program: help on the output, and its message on the error output.
 
 use Rattle.std.specs.Prelude.{◌≡◌, ℕ, Bool, false, ◌||◌, List, [], ◌∷◌, ◌++◌, map}
 use Rattle.tool_io.specs.declared.host.Place as place
@@ -15,12 +15,12 @@ HelpLog tool (status.TheVariants.WriteFault place.TheVariants.Out) events =
     WritesFront place.TheVariants.Out (usage tool) events
 HelpLog tool answer events = ⊥
 
--- the message is out whole where the count of Err didn't rise
+-- the message is out whole if the count of Err didn't rise
 abbrev pub ToldWhole : Tool → status.Status → ℕ → ℕ → List Event → Type 0
 ToldWhole tool answer before now events =
     ¬ Rose before now → given place.TheVariants.Err events ≡ told_to_user tool answer
 
--- whether an event is at a place
+-- an event is at a place
 abbrev pub is_used : place.Place → List Event → Bool
 is_used p [] = false
 is_used p (Attached q name ∷ events) = same_place p q || is_used p events
@@ -28,7 +28,7 @@ is_used p (Missed q name ∷ events) = same_place p q || is_used p events
 is_used p (Took q piece ∷ events) = same_place p q || is_used p events
 is_used p (Gave q piece ∷ events) = same_place p q || is_used p events
 
--- the message comes last: the events before it are at other places than Err, and after it there is none
+-- the message comes last: the events before it are at other places than Err, and no event comes after it
 pub record MessageLast (events : List Event) : Type 0 where
   pub run : List Event
   pub pieces : List (List ℕ)

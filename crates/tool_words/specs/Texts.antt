@@ -8,6 +8,6 @@ use Rattle.std.specs.Str.{is_utf8}
 abbrev pub are_texts : List (List ℕ) → Bool
 are_texts words = list_all is_utf8 words
 
--- a word as a text: its bytes where they are UTF-8, else none
+-- a word as a text: its bytes if they are UTF-8, else none
 abbrev pub text_of : List ℕ → List ℕ
 text_of word = if is_utf8 word then word else []

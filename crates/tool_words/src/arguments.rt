@@ -1,4 +1,4 @@
-//! What both command lines have in common: help, arguments of a command, and what `clap` finds in the arguments.
+//! Parts of both command lines: help, arguments of a command, and the matches of `clap`.
 
 ghost use Rattle.std.specs.Prelude.{◌≡◌, true, false, IfOk, [], map, option_map};
 ghost use Rattle.clap.specs.Words.{app_of, first_of, is_simple_and_free, rule_of};
@@ -10,7 +10,7 @@ use clap::error::ErrorKind;
 use clap::{Arg, ArgAction, ArgMatches, Command};
 use std::alloc::{AllocError, Global};
 
-/// Whether the only argument is `--help` or `-h`.
+/// Returns true if the only argument is `--help` or `-h`.
 pub(crate) fn asks_for_help(words: &Words) -> bool
     ensures { result ≡ reading.is_help (map text_of words.now) }
 {
@@ -21,7 +21,7 @@ pub(crate) fn asks_for_help(words: &Words) -> bool
     word == "--help" || word == "-h"
 }
 
-/// Makes a command without arguments yet. It has no `--help`, and the program's name isn't an argument.
+/// Makes a command without arguments. It has no `--help`, and the program's name isn't an argument.
 pub(crate) fn bare_command<'a>(alloc: Global, name: &'a str) -> Command<'a>
     ensures { app_of result ≡ reading.command_of name.entry.now [] }
 {
@@ -30,7 +30,7 @@ pub(crate) fn bare_command<'a>(alloc: Global, name: &'a str) -> Command<'a>
         .disable_help_flag(true)
 }
 
-/// A flag `--NAME`.
+/// Makes a flag `--NAME`.
 pub(crate) fn flag<'a>(alloc: Global, name: &'a str) -> Arg<'a>
     ensures rule { rule_of result ≡ reading.flag name.entry.now }
     ensures local { result.global ≡ false }
@@ -38,7 +38,7 @@ pub(crate) fn flag<'a>(alloc: Global, name: &'a str) -> Arg<'a>
     Arg::new(alloc, name).long(name).action(ArgAction::SetTrue)
 }
 
-/// An option `--NAME VALUE`.
+/// Makes an option `--NAME VALUE`.
 pub(crate) fn option<'a>(alloc: Global, name: &'a str) -> Arg<'a>
     ensures rule { rule_of result ≡ reading.option name.entry.now }
     ensures local { result.global ≡ false }
@@ -46,7 +46,7 @@ pub(crate) fn option<'a>(alloc: Global, name: &'a str) -> Arg<'a>
     Arg::new(alloc, name).long(name)
 }
 
-/// A value that is given by its place.
+/// Makes a positional argument.
 pub(crate) fn positional<'a>(alloc: Global, name: &'a str) -> Arg<'a>
     ensures rule { rule_of result ≡ reading.positional name.entry.now }
     ensures local { result.global ≡ false }
@@ -54,7 +54,7 @@ pub(crate) fn positional<'a>(alloc: Global, name: &'a str) -> Arg<'a>
     Arg::new(alloc, name)
 }
 
-/// Returns what `clap` finds in the arguments, or `None` where they are invalid.
+/// Returns the matches of `clap` for the arguments, or `None` if they are invalid.
 pub(crate) fn matches_in<'a>(
     command: Command<'a>,
     words: &'a Words,
@@ -72,7 +72,7 @@ pub(crate) fn matches_in<'a>(
     }
 }
 
-/// Whether a flag was given.
+/// Returns true if the flag is among the arguments.
 pub(crate) fn is_set(matches: &ArgMatches<'_>, name: &str) -> bool
     ensures { result ≡ reading.is_set name.now (reading.rows matches.now) }
 {
@@ -82,7 +82,7 @@ pub(crate) fn is_set(matches: &ArgMatches<'_>, name: &str) -> bool
     }
 }
 
-/// The value of an option or a positional, where it was given.
+/// Returns the value of an option or a positional argument, if it is among the arguments.
 pub(crate) fn value_of<'a>(matches: &ArgMatches<'a>, name: &str) -> Option<&'a str>
     ensures { option_map (λ value. value.now) result
         ≡ first_of name.now (reading.rows matches.now) }

@@ -1,4 +1,4 @@
-//! What the arguments of `c2po` request.
+//! Requests of the arguments of `c2po`.
 
 ghost use Rattle.std.specs.Prelude.{◌≡◌, false, IfOk};
 ghost use Rattle.clap.specs.Words.{app_of, rule_of};
@@ -12,42 +12,42 @@ use crate::arguments::{
 use clap::{Arg, ArgMatches, Command};
 use std::alloc::{AllocError, Global};
 
-/// A specification that is to be compiled.
+/// A request to compile a specification.
 #[derive(Clone, Copy, Debug)]
 pub struct Compile<'a> {
-    /// The file whose first line gives the columns.
+    /// The file whose first line names the columns.
     pub header: Option<&'a str>,
     /// The file that is written, or `None` for the standard output.
     pub out: Option<&'a str>,
-    /// Whether the instruction table is written, and not the image.
+    /// True if the instruction table is written instead of the image.
     pub table: bool,
     pub simplify: bool,
     pub spec: &'a str,
 }
 
-/// What the arguments of `c2po` request.
+/// A request of the arguments of `c2po`.
 #[derive(Clone, Copy, Debug)]
 pub enum C2poAsk<'a> {
     Help,
     Compile(Compile<'a>),
-    /// A program to be upgraded into a file.
+    /// A program is upgraded into a file.
     Upgrade {
         out: &'a str,
         program: &'a str,
     },
-    /// A program to be shown as text, in a file or on the standard output.
+    /// A program is shown as text, in a file or on the standard output.
     Show {
         out: Option<&'a str>,
         program: &'a str,
     },
-    /// The words aren't taken.
+    /// The arguments are invalid.
     Nothing,
 }
 
-/// The file that is written where none is named.
+/// The file that is written if none is named.
 const DEFAULT_OUT: &str = "spec.bin";
 
-/// Reads the arguments of `c2po`, without the program's name. It fails only when out of memory.
+/// Reads the arguments of `c2po`, without the program's name. It fails only if out of memory.
 pub fn c2po_ask<'a>(alloc: Global, words: &'a Words) -> Result<C2poAsk<'a>, AllocError>
     ensures { IfOk result (λ asked. c2po.asked_of asked ≡ c2po.ask words.now) }
 {
@@ -76,7 +76,7 @@ fn command<'a>(alloc: Global) -> Result<Command<'a>, AllocError>
         .arg(positional(alloc, "file"))
 }
 
-/// The option `-o FILE` or `--output FILE`.
+/// Makes the option `-o FILE` or `--output FILE`.
 fn output<'a>(alloc: Global) -> Arg<'a>
     ensures rule { rule_of result ≡ c2po.output }
     ensures local { result.global ≡ false }
@@ -104,7 +104,7 @@ fn asked_in<'a>(matches: &ArgMatches<'a>) -> C2poAsk<'a>
     }
 }
 
-/// Whether an option is given that serves compiling alone.
+/// Returns true if an option for compiling alone is among the arguments.
 fn compiles(matches: &ArgMatches<'_>) -> bool
     ensures { result ≡ c2po.is_compiling (rows matches.now) }
 {

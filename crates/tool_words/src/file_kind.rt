@@ -1,6 +1,6 @@
-//! What the file of a run is.
+//! Kinds of the file of a run.
 
-/// What the file of a run is: a specification, or a program.
+/// The kind of the file of a run: a specification, or a program.
 #[derive(Clone, Copy, Debug)]
 pub enum FileKind {
     Spec,

@@ -1,9 +1,9 @@
-//! The words of the two programs' command lines and what they ask for; how their runs end, with their messages; and
-//! reading a file whole.
+//! The arguments of the two programs and their requests; the endings of their runs, with their
+//! messages; and reading a file whole.
 //!
-//! Help is requested by the only argument `--help` or `-h`. All other arguments are read by `clap`, as one command
-//! with options, flags and positionals; the spelling of numbers and the combination of arguments are checked after
-//! that.
+//! Help is requested by the only argument `--help` or `-h`. All other arguments are read by `clap`,
+//! as one command with options, flags and positional arguments; the spelling of numbers and the
+//! combination of arguments are checked after that.
 #![tactic(auto)]
 
 mod arguments;

@@ -24,8 +24,8 @@ pub enum Tool {
 /// The bytes of a message.
 type Text = ArrayVec<u8, 192>;
 
-/// Returns the message of a status, with its newline: nothing for success, the usage line for help and for invalid
-/// arguments, and otherwise the program's name and what is wrong.
+/// Returns the message of a status, with its newline: nothing for success, the usage line for help
+/// and for invalid arguments, and else the program's name and the fault.
 pub fn message_of(tool: Tool, status: &Status) -> ArrayVec<u8, 192>
     ensures { result.items ≡ message tool status.now }
 {

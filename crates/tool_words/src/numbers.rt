@@ -6,19 +6,20 @@ ghost use Rattle.tool_words.specs.Reading.{word_value};
 /// The numbers that an option takes.
 #[derive(Clone, Copy)]
 pub(crate) struct Numbers {
-    /// The most digits, leading zeros among them.
+    /// The most digits, with leading zeros.
     pub digits: usize,
     pub least: u64,
     pub greatest: u64,
 }
 
 impl Numbers {
-    /// The number that a text spells in plain decimal digits, or `None` where it spells none that is taken.
+    /// Returns the number that a text spells in plain decimal digits, or `None` if it spells no
+    /// number that the option takes.
     pub fn read(self, text: &str) -> Option<u64>
         ensures read { result ≡ word_value self.digits self.least self.greatest text.now }
         ensures within { IfSome result (λ n. (self.least ≤ n) × (n ≤ self.greatest)) }
     {
-        // `parse` takes a leading plus, which no plain number has
+        // `parse` takes a leading plus, which isn't allowed here
         if text.starts_with('+') {
             return None;
         }

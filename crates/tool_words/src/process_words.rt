@@ -1,10 +1,10 @@
-//! The words that a program was called with.
+//! The arguments of the process.
 
 use crate::Words;
 use std::alloc::{AllocError, Global};
 use std::env::{Env, FillError};
 
-/// The words after the program's own name, by their bytes.
+/// Returns the arguments after the program's own name, as bytes.
 pub fn words_of<E: Env>(alloc: Global, env: &E) -> Result<Words, AllocError> {
     let mut words = Words::new(alloc);
     for i in 1..usize::MAX {
@@ -16,7 +16,7 @@ pub fn words_of<E: Env>(alloc: Global, env: &E) -> Result<Words, AllocError> {
     Ok(words)
 }
 
-/// Word `i`, or `None` after the last one. A buffer that is too short is made twice as long.
+/// Returns word `i`, or `None` after the last one. The buffer is doubled until the word fits.
 fn word_at<E: Env>(alloc: Global, env: &E, i: usize) -> Result<Option<Vec<u8>>, AllocError> {
     for power in 10u32..40 {
         let mut word = vec![in alloc; 0u8; 1usize << power]?;

@@ -1,4 +1,4 @@
-//! What the arguments of `r2u2` request.
+//! Requests of the arguments of `r2u2`.
 
 ghost use Rattle.std.specs.Prelude.{◌≡◌, ◌≤◌, ◌^◌, IfOk, IfSome, option_map};
 ghost use Rattle.mltl_base.specs.declared.limits.TheConstants.{MAX_MISSION};
@@ -19,51 +19,51 @@ use std::alloc::{AllocError, Global};
 /// A run of the monitor over a trace.
 #[derive(Clone, Copy, Debug)]
 pub struct Run<'a> {
-    /// What the file is.
+    /// The kind of the file.
     pub kind: FileKind,
     pub style: Style,
-    /// Whether the rows of the trace are stamped.
+    /// True if the rows of the trace are stamped.
     pub timed: bool,
-    /// The mission time: the most lines of the trace, and with stamps the most times.
+    /// The mission time: the most lines of the trace, and with stamps also the most times.
     pub mission: u64,
     pub file: &'a str,
-    /// The trace, where `-` is the standard input.
+    /// The trace, or `-` for the standard input.
     pub trace: &'a str,
 }
 
-/// What the arguments of `r2u2` request.
+/// A request of the arguments of `r2u2`.
 #[derive(Clone, Copy, Debug)]
 pub enum R2u2Ask<'a> {
     Help,
     Run(Run<'a>),
-    /// A run over this many rows that are made from the seed.
+    /// A run over this many rows, which are generated from the seed.
     Demo { seed: u32, rows: u32 },
-    /// The words aren't taken.
+    /// The arguments are invalid.
     Nothing,
 }
 
-/// What `--mission-time` takes.
+/// The numbers that `--mission-time` takes.
 const MISSION_TIMES: Numbers = Numbers {
     digits: 13,
     least: 1,
     greatest: MAX_MISSION,
 };
 
-/// Returns what precedes the comma of `--demo`.
+/// The numbers that `--demo` takes before its comma.
 const SEEDS: Numbers = Numbers {
     digits: 10,
     least: 0,
     greatest: u32::MAX as u64,
 };
 
-/// Returns what follows it.
+/// The numbers that `--demo` takes after its comma.
 const ROW_COUNTS: Numbers = Numbers {
     digits: 10,
     least: 1,
     greatest: 10_000_000,
 };
 
-/// Reads the arguments of `r2u2`, without the program's name. It fails only when out of memory.
+/// Reads the arguments of `r2u2`, without the program's name. It fails only if out of memory.
 pub fn r2u2_ask<'a>(alloc: Global, words: &'a Words) -> Result<R2u2Ask<'a>, AllocError>
     ensures asked { IfOk result (λ asked. r2u2.asked_of asked ≡ r2u2.ask words.now) }
     ensures bounds { IfOk result r2u2.IsInBounds }
@@ -112,7 +112,7 @@ fn asked_in<'a>(matches: &ArgMatches<'a>) -> R2u2Ask<'a>
     }
 }
 
-/// Whether no file is named, and no option but `--demo`.
+/// Returns true if no file is named, and there is no option but `--demo`.
 fn is_alone(matches: &ArgMatches<'_>) -> bool
     ensures { result ≡ r2u2.is_demo_alone (rows matches.now) }
 {
@@ -123,7 +123,7 @@ fn is_alone(matches: &ArgMatches<'_>) -> bool
         && value_of(matches, "file").is_none()
 }
 
-/// What the word `SEED,ROWS` asks for.
+/// Returns the request of the word `SEED,ROWS`.
 fn demo_in<'a>(word: &str) -> R2u2Ask<'a>
     ensures asked { r2u2.asked_of result ≡ r2u2.demo_in word.now }
     ensures bounds { r2u2.IsInBounds result }
@@ -140,7 +140,7 @@ fn demo_in<'a>(word: &str) -> R2u2Ask<'a>
     }
 }
 
-/// The run over a file, or `None` where none is given or the mission time can't be read.
+/// Returns the run over a file, or `None` if no file is named or the mission time can't be read.
 fn run_in<'a>(matches: &ArgMatches<'a>) -> Option<Run<'a>>
     ensures asked { option_map r2u2.run_of result ≡ r2u2.run_in (rows matches.now) }
     ensures bounds { IfSome result (λ run. (1 ≤ run.mission) × (run.mission ≤ MAX_MISSION)) }

@@ -1,4 +1,4 @@
-//! How a run of a program ends.
+//! Endings of a run of a program.
 
 ghost use Rattle.std.specs.Prelude.{◌≡◌};
 ghost use Rattle.tool_words.specs.Codes.{code_of};
@@ -11,14 +11,15 @@ use std::alloc::AllocError;
 use tool_io::Place;
 use trace_feed::TraceWhy;
 
-/// How a run ended. Lines count from 1; line 0 is the whole specification.
+/// The ending of a run. Lines count from 1; line 0 is the whole specification.
 #[derive(Drop)]
 pub enum Status {
-    /// The run did what its arguments request, and all of its output is out; a trace was read to its end.
+    /// The run did what its arguments request, and all of its output is out. A trace was read to
+    /// its end.
     Done,
-    /// The words asked for help, and the usage line is out.
+    /// The arguments request help, and the usage line is out.
     Helped,
-    /// Invalid arguments.
+    /// The arguments are invalid.
     Usage,
     /// The specification has a fault, or is past a limit.
     Refused(u32, Refusal),
@@ -40,9 +41,9 @@ pub enum Status {
 }
 
 impl Status {
-    /// Returns the exit code of a program that ends with this status: 0 for success, 1 for its arguments, 2 for a
-    /// specification, 3 for a program file, 4 for a header or a trace, 5 for a text or a trace past its limit, 6 for
-    /// opening and reading, 7 for writing, 8 for memory.
+    /// Returns the exit code of a program that ends with this status: 0 for success, 1 for its
+    /// arguments, 2 for a specification, 3 for a program file, 4 for a header or a trace, 5 for a
+    /// text or a trace past its limit, 6 for opening and reading, 7 for writing, 8 for memory.
     pub fn code(&self) -> u8
         ensures { result ≡ code_of self.now }
     {

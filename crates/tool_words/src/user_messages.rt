@@ -1,4 +1,4 @@
-//! What a program prints for its user: the usage line as help, and a message where a run fails.
+//! Output for the user of a program: the usage line as help, and a message if a run fails.
 
 ghost use Rattle.tool_io.specs.Log.{OnLog};
 ghost use Rattle.tool_io.specs.Host.{WriteCause};
@@ -23,7 +23,7 @@ pub fn give_help<H: Host>(tool: Tool, host: &mut H) -> Status
     }
 }
 
-/// Tells the user on `Err` how the run ended; nothing where help was given.
+/// Writes the message of a status on `Err`, or nothing after help.
 pub fn tell_user<H: Host>(tool: Tool, status: &Status, host: &mut H) -> Put
     ensures cause { WriteCause result (H.faults host.old) (H.faults host.new) Err }
     ensures log { OnLog (H.log host.old) (H.log host.new)

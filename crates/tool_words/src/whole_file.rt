@@ -11,7 +11,7 @@ use mltl_base::limits::{MAX_PROGRAM_BYTES, MAX_SPEC_BYTES};
 use std::alloc::Global;
 use tool_io::{Attached, Host, Place, WholeFault, read_whole};
 
-/// Where a file is read, and how many bytes it may have.
+/// Returns the place of a file, and the most bytes that it may have.
 fn place_of(kind: FileKind) -> (Place, usize)
     ensures place { result.0 ≡ file_place kind }
     ensures limit { result.1 ≡ file_limit kind }

@@ -1,4 +1,4 @@
-//! The words of a command line.
+//! The arguments of a command line.
 
 ghost use Rattle.std.specs.Prelude.{◌≡◌, ◌==◌, ◌<◌, [], ◌∷◌, ◌++◌, length, slice_get, map, Some, OnOk, OnErr};
 ghost use Rattle.std.specs.List.{list_all};
@@ -9,7 +9,8 @@ use std::alloc::{AllocError, Global};
 use std::convert::AsStr;
 use std::marker::Model;
 
-/// The words after a program's own name, which contracts see as the list of their bytes. A word needn't be UTF-8.
+/// The arguments after a program's own name, which contracts see as the list of their bytes. An
+/// argument needn't be UTF-8.
 #[derive(Drop)]
 pub struct Words {
     alloc: Global,
@@ -25,7 +26,7 @@ impl Model for Words {
 }
 
 impl Words {
-    /// Makes an empty list of arguments. It does not allocate.
+    /// Makes an empty list of arguments. It doesn't allocate.
     pub fn new(alloc: Global) -> Words
         ensures { result ≡ [] }
     {
@@ -35,7 +36,7 @@ impl Words {
         }
     }
 
-    /// Puts a word after the last one; when out of memory nothing changed.
+    /// Appends a word. If out of memory, nothing changes.
     pub fn push(&mut self, word: &str) -> Result<(), AllocError>
         ensures pushed { OnOk result (self.new ≡ self.old ++ word.now ∷ []) }
         ensures kept { OnErr result (self.new ≡ self.old) }
@@ -43,7 +44,7 @@ impl Words {
         self.push_bytes(word.as_bytes())
     }
 
-    /// Puts a word after the last one by its bytes; when out of memory nothing changed.
+    /// Appends a word by its bytes. If out of memory, nothing changes.
     pub fn push_bytes(&mut self, word: &[u8]) -> Result<(), AllocError>
         ensures pushed { OnOk result (self.new ≡ self.old ++ word.now ∷ []) }
         ensures kept { OnErr result (self.new ≡ self.old) }
@@ -53,21 +54,21 @@ impl Words {
         Ok(())
     }
 
-    /// The number of words.
+    /// Returns the number of words.
     pub fn len(&self) -> usize
         ensures { result ≡ length self.now }
     {
         self.words.len()
     }
 
-    /// Whether there are no words.
+    /// Returns true if there are no words.
     pub fn is_empty(&self) -> bool
         ensures { result ≡ (length self.now == 0) }
     {
         self.words.is_empty()
     }
 
-    /// Word `i`, counted from 0, as a text; a word that isn't UTF-8 as the empty one.
+    /// Returns word `i`, counted from 0, as a text, or the empty text if the word isn't UTF-8.
     pub fn get(&self, i: usize) -> &str
         requires { i < length self.now }
         ensures { slice_get (map text_of self.now) i ≡ Some result.now }
@@ -75,14 +76,14 @@ impl Words {
         self.words[i].as_str()
     }
 
-    /// Whether all words are UTF-8.
+    /// Returns true if all words are UTF-8.
     pub fn are_texts(&self) -> bool
         ensures { result ≡ are_texts self.now }
     {
         are_utf8(&self.words)
     }
 
-    /// Returns the arguments as texts, as `get` does.
+    /// Returns the words. `get` returns each as a text.
     pub(crate) fn as_slice(&self) -> &[WordBytes]
         ensures { map (λ word. text_of word.bytes.items) result.now ≡ map text_of self.now }
     {
@@ -97,7 +98,7 @@ pub(crate) struct WordBytes {
 }
 
 impl WordBytes {
-    /// Whether the bytes are UTF-8.
+    /// Returns true if the bytes are UTF-8.
     fn is_text(&self) -> bool
         ensures { result ≡ is_utf8 self.now.bytes.items }
     {
