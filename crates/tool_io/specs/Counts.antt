@@ -1,4 +1,4 @@
--- What one counter for each place says, and how a counter rises.
+-- Counters, one for each place, and their rise.
 use Rattle.std.specs.Prelude.{ℕ, ◌+◌, ◌-◌, ◌^◌, ◌==◌, if◌then◌else◌}
 use Rattle.tool_io.specs.declared.counts.Counts.{Counts}
 use Rattle.tool_io.specs.declared.host.Place.{Place}
@@ -17,7 +17,7 @@ count_at counts Trace = counts.trace
 count_at counts Out = counts.out
 count_at counts Err = counts.err
 
--- one more; a counter at its last value stays there
+-- the count and one more; a counter at its last value stays there
 abbrev pub one_more : ℕ → ℕ
 one_more count = if count == 2 ^ 64 - 1 then count else count + 1
 

@@ -1,4 +1,4 @@
--- How a stream of bytes is cut into lines, and what a LineCut represents.
+-- The lines that a stream of bytes is cut into, and the values that a LineCut represents.
 use Rattle.std.specs.Prelude.{◌≡◌, ℕ, ◌+◌, ◌-◌, ◌^◌, ◌<◌, ◌≤◌, ◌⊎◌, ◌==◌, ◌&&◌, ◌||◌, not, nat_lt, nat_le, min, Bool}
 use Rattle.std.specs.Prelude.{true, false, if◌then◌else◌, Option, Some, None, IsSome, unwrap_or, List, [], ◌∷◌, ◌++◌}
 use Rattle.std.specs.Prelude.{length, take, slice_index, ⊤}
@@ -9,9 +9,8 @@ use Rattle.tool_io.specs.declared.line_cut.Line as line
 use Rattle.tool_io.specs.Log.{Event, Reads, meets_end}
 use Rattle.tool_io.specs.Host.{NoFault, RoseAt}
 
--- Bytes that were read and not yet cut, a kept line among them; the line with its newline that the last call
--- returned, if that was a Row; whether that line is returned once more; whether the end was reached; the number of
--- the last line.
+-- The bytes that were read and not yet cut, a kept line included; the line with its newline that the last call returned, if
+-- that was a Row; true if that line is to be returned once more; true if the end was reached; the number of the last line.
 pub record Cutting : Type 0 where
   pub pending : List ℕ
   pub row : Option (List ℕ)
@@ -24,7 +23,7 @@ abbrev pub HasNoNewline : List ℕ → Type 0
 HasNoNewline [] = ⊤
 HasNoNewline (byte ∷ bytes) = ((byte == 10) ≡ false) × HasNoNewline bytes
 
--- whether one of the bytes is a newline
+-- true if one of the bytes is a newline
 abbrev pub has_newline : List ℕ → Bool
 has_newline [] = false
 has_newline (byte ∷ bytes) = (byte == 10) || has_newline bytes
@@ -35,11 +34,11 @@ pub record EndsLine (raw : List ℕ) : Type 0 where
   pub is : raw ≡ body ++ 10 ∷ []
   pub one : HasNoNewline body
 
--- whether a byte is the last of these
+-- true if these bytes end in this byte
 abbrev pub ends_in : ℕ → List ℕ → Bool
 ends_in byte bytes = nat_lt 0 (length bytes) && (slice_index bytes (length bytes - 1) == byte)
 
--- the bytes without their last one, where it is this one
+-- the bytes without their last one, if that is this byte
 abbrev pub without_end : ℕ → List ℕ → List ℕ
 without_end byte bytes = if ends_in byte bytes then take (length bytes - 1) bytes else bytes
 
@@ -47,7 +46,7 @@ without_end byte bytes = if ends_in byte bytes then take (length bytes - 1) byte
 abbrev pub line_text : List ℕ → List ℕ
 line_text raw = if ends_in 10 raw then without_end 13 (take (length raw - 1) raw) else raw
 
--- a byte in front of the first of some lines
+-- the lines with a byte before the first of them
 abbrev pub onto : ℕ → List (List ℕ) → List (List ℕ)
 onto byte [] = []
 onto byte (raw ∷ raws) = (byte ∷ raw) ∷ raws
@@ -62,7 +61,7 @@ abbrev pub rest_of : List ℕ → List ℕ
 rest_of [] = []
 rest_of (byte ∷ bytes) = if has_newline (byte ∷ bytes) then rest_of bytes else byte ∷ bytes
 
--- they are a line too where the bytes have ended, or where they are too long for one
+-- the bytes as a line, if they have ended or are too long for a line
 abbrev pub last_line : Bool → List ℕ → List (List ℕ)
 last_line ended [] = []
 last_line ended (byte ∷ bytes) =
@@ -76,7 +75,7 @@ lines_of ended bytes = whole_lines bytes ++ last_line ended (rest_of bytes)
 abbrev pub is_long : List ℕ → Bool
 is_long raw = nat_le MAX_LINE_BYTES (length raw) && not (has_newline (take MAX_LINE_BYTES raw))
 
--- before the first byte was taken
+-- the cut before the first byte
 abbrev pub fresh : Cutting
 fresh = record { pending = []; row = None; kept = false; ended = false; number = 0 }
 
@@ -84,7 +83,7 @@ fresh = record { pending = []; row = None; kept = false; ended = false; number =
 abbrev pub row_of : Cutting → List ℕ
 row_of cut = unwrap_or cut.row []
 
--- the same with the last line kept
+-- the cut with its last line kept
 abbrev pub keeps : Cutting → Cutting
 keeps cut = if cut.kept then cut else record cut { pending = row_of cut ++ cut.pending; kept = true }
 
@@ -92,13 +91,13 @@ keeps cut = if cut.kept then cut else record cut { pending = row_of cut ++ cut.p
 abbrev pub next_number : Cutting → ℕ
 next_number cut = if cut.kept then cut.number else min (cut.number + 1) (2 ^ 64 - 1)
 
--- a read is made only where the bytes before it hold no newline, and are fewer than the buffer holds
+-- a read is made only if the bytes before it hold no newline, and are fewer than the buffer holds
 abbrev pub OnlyWhereNeeded : List ℕ → List (List ℕ) → Type 0
 OnlyWhereNeeded pending [] = ⊤
 OnlyWhereNeeded pending (piece ∷ pieces) =
     HasNoNewline pending × (length pending < MAX_LINE_BYTES) × OnlyWhereNeeded (pending ++ piece) pieces
 
--- The last line, without a newline: the bytes after it are none, and the end was met.
+-- The last line, without a newline: no byte follows it, and the end was met.
 pub record IsLastRow (raw rest : List ℕ) (ended : Bool) : Type 0 where
   pub some : 0 < length raw
   pub short : length raw < MAX_LINE_BYTES
@@ -106,7 +105,7 @@ pub record IsLastRow (raw rest : List ℕ) (ended : Bool) : Type 0 where
   pub no_rest : rest ≡ []
   pub at_end : ended ≡ true
 
--- a line with its newline, or the last one without
+-- the bytes are a line with its newline, or the last line without one
 abbrev pub IsRow : List ℕ → List ℕ → Bool → Type 0
 IsRow raw rest ended = EndsLine raw ⊎ IsLastRow raw rest ended
 
@@ -127,7 +126,7 @@ pub record GivesNone (all : List ℕ) (old new : Cutting) : Type 0 where
   pub kept : new.kept ≡ false
   pub no_newline : HasNoNewline all
 
--- what each result says of the cut: a row, the end, a line that is too long, or a read that failed
+-- each result fits the cut: a row, the end, a line that is too long, or a read that failed
 abbrev pub Answer : line.Line → List ℕ → Cutting → Cutting → Type 0
 Answer line.TheVariants.Row all old new = (raw : List ℕ) × GivesRow all old new raw
 Answer line.TheVariants.End all old new = GivesNone all old new × (all ≡ []) × (new.ended ≡ true)
@@ -148,7 +147,7 @@ pub record GivesAgain (outcome : line.Line) (old new : Cutting) (pieces : List (
   pub row : new.row ≡ old.row
   pub reads : pieces ≡ []
 
--- what a call for the next line returns, and how it leaves the cut
+-- a call for the next line returns this outcome, logs these events, and leaves the cut `new`
 pub record CutsLine (place : Place) (old new : Cutting) (outcome : line.Line) (events : List Event) : Type 0 where
   pub pieces : List (List ℕ)
   pub reads : Reads place pieces events

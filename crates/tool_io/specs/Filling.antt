@@ -1,10 +1,10 @@
--- What a read after the first bytes of a buffer does.
+-- A read into a buffer after its first bytes.
 use Rattle.std.specs.Prelude.{◌≡◌, ℕ, ◌+◌, ◌<◌, ◌≤◌, Option, List, [], ◌∷◌, ◌++◌, length, take}
 use Rattle.tool_io.specs.declared.host.Place.{Place}
 use Rattle.tool_io.specs.declared.host.Got as got
 use Rattle.tool_io.specs.Log.{Event, Took, Appends}
 
--- a read after the first bytes of a buffer leaves those, puts its bytes after them, and logs them
+-- a read after the first bytes of a buffer keeps them, puts its bytes after them, and logs these
 abbrev pub Fills : got.Got → List ℕ → List ℕ → Option (List Event) → Option (List Event) → Place → Type 0
 Fills (got.TheVariants.Bytes n) kept buffer before now place =
     (piece : List ℕ) × (length piece ≡ n) × (0 < n) × (length kept + n ≤ length buffer)

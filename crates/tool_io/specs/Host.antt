@@ -1,4 +1,4 @@
--- What the calls of a host do to its counts of faults, to its log and to what is left to be read.
+-- The effect of a host's calls on its counts of faults, its log and the bytes left to be read.
 use Rattle.std.specs.Prelude.{◌≡◌, ◌≢◌, ℕ, ◌+◌, ◌-◌, ◌^◌, ◌<◌, ◌≤◌, ◌⊎◌, min, Option, Some, None, List, [], ◌∷◌, ◌++◌}
 use Rattle.std.specs.Prelude.{length, take, drop, ⊤}
 use Rattle.tool_io.specs.declared.host.Place.{Place}
@@ -9,13 +9,13 @@ use Rattle.tool_io.specs.declared.host.Put as put
 use Rattle.tool_io.specs.Counts.{one_more}
 use Rattle.tool_io.specs.Log.{Event, Attached, Missed, Took, Gave, Appends}
 
--- Out and Err are written
+-- the place is written: Out and Err are
 abbrev pub IsSink : Place → Type 0
 IsSink Out = ⊤
 IsSink Err = ⊤
 IsSink p = ⊥
 
--- the other places are read
+-- the place is read: all others are
 abbrev pub IsSource : Place → Type 0
 IsSource Out = ⊥
 IsSource Err = ⊥
@@ -25,7 +25,7 @@ IsSource p = ⊤
 abbrev pub Rose : ℕ → ℕ → Type 0
 Rose before now = min (before + 1) (2 ^ 64 - 1) ≤ now
 
--- it rose by one, as a counter does: so one call failed and no more
+-- the count rose by one, as a counter does: exactly one call failed
 abbrev pub RoseByOne : ℕ → ℕ → Type 0
 RoseByOne before now = now ≡ one_more before
 
@@ -72,7 +72,7 @@ ReadRange (got.TheVariants.Bytes n) into = (0 < n) × (n ≤ length into)
 ReadRange got.TheVariants.End into = ⊤
 ReadRange got.TheVariants.Failed into = ⊤
 
--- where the rest is known, a read returns a prefix of it, and reaches the end exactly where nothing is left
+-- if the bytes left are known, a read returns a prefix of them, and reaches the end exactly if none is left
 abbrev pub ReadLeft : got.Got → Option (List ℕ) → Option (List ℕ) → List ℕ → Type 0
 ReadLeft (got.TheVariants.Bytes n) (Some left) now into =
     (left ≡ take n into ++ drop n left) × (now ≡ Some (drop n left))
@@ -80,11 +80,11 @@ ReadLeft got.TheVariants.End (Some left) now into = (left ≡ []) × (now ≡ So
 ReadLeft got.TheVariants.Failed (Some left) now into = now ≡ Some left
 ReadLeft result None now into = ⊤
 
--- nothing changed of what is left at the places other than this one
+-- the bytes left stay the same at every place other than this one
 abbrev pub LeftElsewhere : (Place → Option (List ℕ)) → (Place → Option (List ℕ)) → Place → Type 0
 LeftElsewhere before now place = (other : Place) → other ≢ place → now other ≡ before other
 
--- nothing changed of what is left
+-- the bytes left stay the same at every place
 abbrev pub LeftAlone : (Place → Option (List ℕ)) → (Place → Option (List ℕ)) → Type 0
 LeftAlone before now = (place : Place) → now place ≡ before place
 

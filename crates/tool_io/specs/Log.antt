@@ -13,7 +13,7 @@ pub data Event : Type 0 where
   Took : Place → List ℕ → Event
   Gave : Place → List ℕ → Event
 
--- whether two places are one
+-- true if the two places are equal
 abbrev pub same_place : Place → Place → Bool
 same_place Spec Spec = true
 same_place Header Header = true
@@ -39,12 +39,12 @@ given p (Attached q name ∷ events) = given p events
 given p (Missed q name ∷ events) = given p events
 given p (Took q bytes ∷ events) = given p events
 
--- whether a list holds nothing
+-- true if the list is empty
 abbrev pub is_empty : List ℕ → Bool
 is_empty [] = true
 is_empty (byte ∷ bytes) = false
 
--- whether the last read of a place met the end, where `ended` says so of the reads before
+-- true if the last read of a place met the end; without a read, `ended`
 abbrev pub ended_from : Bool → Place → List Event → Bool
 ended_from ended place [] = ended
 ended_from ended place (Took q piece ∷ events) =
@@ -72,12 +72,12 @@ pub record IsProperFront {X : Type 0} (front whole : List X) : Type 0 where
   pub split : whole ≡ front ++ rest
   pub misses : rest ≢ []
 
--- where the host has a log, the log has grown by these events
+-- if the host has a log, the log has grown by these events
 abbrev pub Appends : Option (List Event) → Option (List Event) → List Event → Type 0
 Appends None now events = ⊤
 Appends (Some before) now events = now ≡ Some (before ++ events)
 
--- what was appended since has P, where the host has a log
+-- if the host has a log, P holds of the events that were appended since
 pub record OnLog (before now : Option (List Event)) (P : List Event → Type 0) : Type 0 where
   pub events : List Event
   pub appended : Appends before now events
@@ -87,7 +87,7 @@ pub record OnLog (before now : Option (List Event)) (P : List Event → Type 0) 
 abbrev pub Reads : Place → List (List ℕ) → List Event → Type 0
 Reads place pieces events = events ≡ map (Took place) pieces
 
--- whether the last of these reads met the end, where `ended` says so of the reads before
+-- true if the last of these reads met the end; without a read, `ended`
 abbrev pub meets_end : Bool → List (List ℕ) → Bool
 meets_end ended [] = ended
 meets_end ended (piece ∷ pieces) = meets_end (is_empty piece) pieces
@@ -106,8 +106,8 @@ pub record WritesFront (place : Place) (bytes : List ℕ) (events : List Event) 
   pub misses : unsent ≢ []
   pub writes : Writes place sent events
 
--- Before each read of the trace, what was given on Out is what is due for the bytes taken until then.
--- `bytes` are those that were taken before these events.
+-- Before each read of the trace, the bytes given on Out are those that are due for the bytes taken until then. `bytes` were
+-- taken before these events.
 abbrev pub Prompt : (List ℕ → List ℕ) → List ℕ → List Event → Type 0
 Prompt due_of bytes events =
     (before after : List Event) (piece : List ℕ) → events ≡ before ++ Took Trace piece ∷ after

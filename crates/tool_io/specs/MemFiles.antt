@@ -1,4 +1,4 @@
--- Files in memory, and what each place reads of them.
+-- Files in memory, and the reading of each place in them.
 use Rattle.std.specs.Prelude.{◌≢◌, ℕ, Bool, Option, Some, None, List, [], IfSome, find, drop}
 use Rattle.std.specs.Option.{option_map, option_map_or}
 use Rattle.std.specs.Str.{bytes_eq}
@@ -10,19 +10,19 @@ pub record NamedBytes : Type 0 where
   pub name : List ℕ
   pub bytes : List ℕ
 
--- what a place is attached to, and what of it is still to be read
+-- the file that a place is attached to, and the bytes of it that are still to be read
 pub record Reading : Type 0 where
   pub name : List ℕ
   pub left : List ℕ
 
--- what each place that is read is attached to
+-- the reading of each place that is read
 pub record Readings : Type 0 where
   pub spec : Option Reading
   pub header : Option Reading
   pub program : Option Reading
   pub trace : Option Reading
 
--- files in memory, and what each place reads of them
+-- files in memory, and the reading of each place in them
 pub record Stored : Type 0 where
   pub files : List NamedBytes
   pub readings : Readings
@@ -31,7 +31,7 @@ pub record Stored : Type 0 where
 abbrev pub no_files : Stored
 no_files = record { files = []; readings = record { spec = None; header = None; program = None; trace = None } }
 
--- whether a file has this name
+-- true if the file has this name
 abbrev pub has_file_name : List ℕ → NamedBytes → Bool
 has_file_name name file = bytes_eq file.name name
 
@@ -39,7 +39,7 @@ has_file_name name file = bytes_eq file.name name
 abbrev pub file_of : Stored → List ℕ → Option (List ℕ)
 file_of stored name = option_map (λ file. file.bytes) (find (has_file_name name) stored.files)
 
--- what a place reads; Out and Err are not read
+-- the reading of a place; Out and Err have none
 abbrev pub reading_at : Readings → Place → Option Reading
 reading_at readings Spec = readings.spec
 reading_at readings Header = readings.header
@@ -48,7 +48,7 @@ reading_at readings Trace = readings.trace
 reading_at readings Out = None
 reading_at readings Err = None
 
--- what a place has still to read, where it is attached
+-- the bytes that a place has still to read, if it is attached
 abbrev pub left_of : Stored → Place → Option (List ℕ)
 left_of stored place = option_map (λ reading. reading.left) (reading_at stored.readings place)
 
@@ -65,16 +65,16 @@ with_reading readings Trace reading = record readings { trace = Some reading }
 with_reading readings Out reading = readings
 with_reading readings Err reading = readings
 
--- the files with what a place reads
+-- the files after a place got this reading
 abbrev pub with_place : Stored → Place → Reading → Stored
 with_place stored place reading = record stored { readings = with_reading stored.readings place reading }
 
--- the files after a place was attached to the file of this name, which changes nothing where there is none
+-- the files after a place was attached to the file of this name, unchanged if there is none
 abbrev pub with_file_at : Stored → Place → List ℕ → Stored
 with_file_at stored place name =
     option_map_or (λ bytes. with_place stored place (record { name = name; left = bytes })) (file_of stored name) stored
 
--- the files after a place passed over this many bytes
+-- the files after a place skipped this many bytes
 abbrev pub skipped : Stored → Place → ℕ → Stored
 skipped stored place count =
     option_map_or (λ reading. with_place stored place (record reading { left = drop count reading.left }))

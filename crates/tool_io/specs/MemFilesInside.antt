@@ -1,4 +1,4 @@
--- How files in memory keep what each place reads: the file's index, and how many of its bytes are left.
+-- The fields of files in memory: for each place the file's index, and the number of its bytes left.
 use Rattle.std.specs.Prelude.{ℕ, ◌-◌, ◌<◌, ◌≤◌, Option, Some, None, List, [], length, drop, slice_index_or, ⊤}
 use Rattle.std.specs.Option.{option_map}
 use Rattle.tool_io.specs.declared.host.Place.{Place}
@@ -12,7 +12,7 @@ use Rattle.tool_io.specs.MemFiles.{NamedBytes, Reading, Readings, Stored}
 abbrev pub file_at : List NamedBytes → ℕ → NamedBytes
 file_at files i = slice_index_or files i (record { name = []; bytes = [] })
 
--- what a cursor reads
+-- the reading of a cursor
 abbrev pub cursor_reading : List NamedBytes → Cursor → Reading
 cursor_reading files cursor =
     let file = file_at files cursor.file in record {
@@ -20,7 +20,7 @@ cursor_reading files cursor =
       left = drop (length file.bytes - cursor.left) file.bytes;
     }
 
--- what all cursors read
+-- the readings of all cursors
 abbrev pub cursor_readings : List NamedBytes → Cursors → Readings
 cursor_readings files cursors = record {
   spec = option_map (cursor_reading files) cursors.spec;
@@ -29,7 +29,7 @@ cursor_readings files cursors = record {
   trace = option_map (cursor_reading files) cursors.trace;
 }
 
--- the files that are kept so, and what each place reads of them
+-- the files, and the reading of each place in them
 abbrev pub stored_of : Inside → Stored
 stored_of inside = record { files = inside.files.items; readings = cursor_readings inside.files.items inside.cursors }
 
@@ -38,7 +38,7 @@ pub record IsWithin (files : List NamedBytes) (cursor : Cursor) : Type 0 where
   pub file : cursor.file < length files
   pub left : cursor.left ≤ length (file_at files cursor.file).bytes
 
--- so does a cursor, where there is one
+-- the cursor, if there is one, names a file and has no more bytes left than that file has
 abbrev pub FitsIn : List NamedBytes → Option Cursor → Type 0
 FitsIn files None = ⊤
 FitsIn files (Some cursor) = IsWithin files cursor

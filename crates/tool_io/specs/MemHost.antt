@@ -1,4 +1,4 @@
--- What a host in memory holds, when a call of it fails, what it answers, and what it holds afterwards.
+-- A host in memory: its state, and the failure, the answer and the effect of each call.
 use Rattle.std.specs.Prelude.{◌≡◌, ◌==◌, ℕ, Bool, false, ◌&&◌, ◌||◌, not, if◌then◌else◌, min, Option, Some, None, List}
 use Rattle.std.specs.Prelude.{[], ◌++◌, length, take, drop, unwrap_or}
 use Rattle.std.specs.Option.{is_none, option_map_or}
@@ -15,8 +15,8 @@ use Rattle.tool_io.specs.Counts.{count_at, counted_up, no_counts}
 use Rattle.tool_io.specs.Tape.{Taped, new_tape, has_room, with_event}
 use Rattle.tool_io.specs.MemFiles.{Stored, no_files, file_of, left_of, with_file_at, skipped}
 
--- the files and what each place reads of them, the log with its room, the counts of calls and of faults,
--- the calls that are to fail, and the most bytes that a read gives, if there is such a limit
+-- the files and the reading of each place, the log with its room, the counts of calls and of faults, the calls that are to
+-- fail, and the most bytes that a read gives, if there is such a limit
 pub record Held : Type 0 where
   pub store : Stored
   pub tape : Taped
@@ -45,16 +45,16 @@ faults_of host place = count_at host.faults place
 abbrev pub log_of : Held → Option (List Event)
 log_of host = Some host.tape.events
 
--- what a place has still to read, as the host shows it, where the place is attached
+-- the bytes that a place has still to read, as the host shows them, if the place is attached
 abbrev pub left_in : Held → Place → Option (List ℕ)
 left_in host place = left_of host.store place
 
--- whether the next call of a place is listed to fail
+-- true if the next call of the place is listed to fail
 abbrev pub is_listed : Held → Place → Bool
 is_listed host place =
     list_any (λ entry. same_place entry.place place && (entry.call == count_at host.calls place)) host.listed
 
--- whether a place can't be attached to a name: a place that is read needs a file there
+-- true if the place can't be attached to the name: a place that is read needs a file of that name
 abbrev pub is_missing : Held → Place → List ℕ → Bool
 is_missing host Out name = false
 is_missing host Err name = false
@@ -84,7 +84,7 @@ stands host place name = record host { store = with_file_at host.store place nam
 
 -- ---- attach
 
--- the call is listed, or there is no room, or no file of that name
+-- true if the call is listed, or there is no room, or no file of that name
 abbrev pub attach_fails : Held → Place → List ℕ → Bool
 attach_fails host place name =
     is_listed host place || not (has_room host.tape (length name)) || is_missing host place name
@@ -94,7 +94,7 @@ abbrev pub attach_answer : Held → Place → List ℕ → attached.Attached
 attach_answer host place name =
     if attach_fails host place name then attached.TheVariants.Failed else attached.TheVariants.Ready
 
--- a failed attach logs Missed where there is room
+-- the host after an attach: a failed attach logs Missed if there is room
 abbrev pub after_attach : Held → Place → List ℕ → Held
 after_attach host place name =
     if attach_fails host place name then told_in_room (failed host place) (Missed place name) (length name)
@@ -110,7 +110,7 @@ at_most block room = option_map_or (λ n. min room n) block room
 abbrev pub read_bytes : Held → Place → ℕ → List ℕ
 read_bytes host place room = take (at_most host.block room) (unwrap_or (left_of host.store place) [])
 
--- the call is listed, or the place isn't attached, or there is no room
+-- true if the call is listed, or the place isn't attached, or there is no room
 abbrev pub read_fails : Held → Place → ℕ → Bool
 read_fails host place room =
     is_listed host place || is_none (left_of host.store place)
@@ -125,7 +125,7 @@ abbrev pub read_answer : Held → Place → ℕ → got.Got
 read_answer host place room =
     if read_fails host place room then got.TheVariants.Failed else gives (length (read_bytes host place room))
 
--- a failed read logs nothing
+-- the host after a read: a failed read logs nothing
 abbrev pub after_read : Held → Place → ℕ → Held
 after_read host place room =
     if read_fails host place room then failed host place
@@ -146,16 +146,16 @@ pub record Reads (answer : got.Got) (before now : Held) (place : Place) (slice f
 
 -- ---- write
 
--- the call is listed, or there is no room
+-- true if the call is listed, or there is no room
 abbrev pub write_fails : Held → Place → List ℕ → Bool
 write_fails host place piece = is_listed host place || not (has_room host.tape (length piece))
 
--- what a write answers: it failed, or the whole piece is taken
+-- what a write returns: it failed, or the whole piece is taken
 abbrev pub write_answer : Held → Place → List ℕ → put.Put
 write_answer host place piece =
     if write_fails host place piece then put.TheVariants.Failed else put.TheVariants.Wrote (length piece)
 
--- a failed write logs nothing, another one takes the whole piece
+-- the host after a write: a failed write logs nothing, another one takes the whole piece
 abbrev pub after_write : Held → Place → List ℕ → Held
 after_write host place piece =
     if write_fails host place piece then failed host place else logged (noted host place) (Gave place piece)

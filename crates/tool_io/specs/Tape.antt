@@ -2,17 +2,17 @@
 use Rattle.std.specs.Prelude.{ℕ, ◌+◌, Bool, ◌&&◌, nat_lt, nat_le, List, [], ◌∷◌, ◌++◌, length}
 use Rattle.tool_io.specs.Log.{Event, Attached, Missed, Took, Gave}
 
--- the events so far, and how many events and how many bytes in them there is room for
+-- the events so far, and the most events and bytes in them that there is room for
 pub record Taped : Type 0 where
   pub events : List Event
   pub most_events : ℕ
   pub most_bytes : ℕ
 
--- a log with nothing in it
+-- an empty log with this room
 abbrev pub new_tape : ℕ → ℕ → Taped
 new_tape events bytes = record { events = []; most_events = events; most_bytes = bytes }
 
--- the bytes of an event, its name among them
+-- the bytes of an event, or its name
 abbrev pub event_bytes : Event → List ℕ
 event_bytes (Attached place name) = name
 event_bytes (Missed place name) = name
@@ -24,7 +24,7 @@ abbrev pub bytes_in : List Event → ℕ
 bytes_in [] = 0
 bytes_in (event ∷ events) = length (event_bytes event) + bytes_in events
 
--- whether one more event with this many bytes fits
+-- true if one more event with this many bytes fits
 abbrev pub has_room : Taped → ℕ → Bool
 has_room tape count =
     nat_lt (length tape.events) tape.most_events && nat_le (bytes_in tape.events + count) tape.most_bytes

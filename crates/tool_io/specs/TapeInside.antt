@@ -1,4 +1,4 @@
--- How a tape keeps its log: a mark for each event, and the bytes of all events in one buffer.
+-- The fields of a tape: a mark for each event, and the bytes of all events in one buffer.
 use Rattle.std.specs.Prelude.{◌≡◌, ℕ, ◌+◌, ◌≤◌, List, [], ◌∷◌, length, take, drop, vec_capacity}
 use Rattle.tool_io.specs.declared.host.Place.{Place}
 use Rattle.tool_io.specs.declared.host.Place.TheVariants.{Out, Err}
@@ -22,7 +22,7 @@ events_of [] bytes = []
 events_of (mark ∷ marks) bytes =
     event_of mark.deed mark.place (take mark.len bytes) ∷ events_of marks (drop mark.len bytes)
 
--- how many bytes marks speak of
+-- the number of bytes of the marks
 abbrev pub marked_bytes : List Mark → ℕ
 marked_bytes [] = 0
 marked_bytes (mark ∷ marks) = mark.len + marked_bytes marks
@@ -36,7 +36,7 @@ view_of tape =
       most_bytes = tape.most_bytes;
     }
 
--- the marks cover the buffer, what Out and Err were given is next to it, and none outgrows its room
+-- the marks cover the buffer, the bytes of Out and Err are kept beside it, and none outgrows its room
 pub record IsTape (tape : Inside) : Type 0 where
   pub covered : marked_bytes tape.marks.items ≡ length tape.bytes.items
   pub out : tape.out.items ≡ given Out (events_of tape.marks.items tape.bytes.items)

@@ -1,11 +1,11 @@
-//! One counter for each place.
+//! Counters, one for each place.
 
 ghost use Rattle.std.specs.Prelude.{◌≡◌};
 ghost use Rattle.tool_io.specs.Counts.{count_at, counted_up, no_counts};
 
 use crate::host::Place;
 
-/// How often something happened at each place. A counter that is at 2^64 - 1 stays there.
+/// A count of events for each place. A counter stays at 2^64 - 1 once it is there.
 #[derive(Clone, Copy)]
 pub struct Counts {
     pub spec: u64,
@@ -17,7 +17,7 @@ pub struct Counts {
 }
 
 impl Counts {
-    /// Makes counters at 0.
+    /// Creates counters at 0.
     pub fn new() -> Counts
         ensures { result ≡ no_counts }
     {
@@ -31,7 +31,7 @@ impl Counts {
         }
     }
 
-    /// The counter of a place.
+    /// Returns the counter of a place.
     pub fn at(&self, place: Place) -> u64
         ensures { result ≡ count_at self.now place }
     {
@@ -45,7 +45,7 @@ impl Counts {
         }
     }
 
-    /// Counts one more at a place.
+    /// Adds one to the counter of a place.
     pub fn raise(&mut self, place: Place)
         ensures { self.new ≡ counted_up self.old place }
     {

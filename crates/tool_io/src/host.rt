@@ -1,11 +1,11 @@
-//! The places of a program, the results of their calls, and what a host of them promises.
+//! The places of a program, the results of calls on them, and the contract of their hosts.
 
 ghost use Rattle.std.specs.Prelude.{ℕ, Option, List, ◌<◌, length};
 ghost use Rattle.tool_io.specs.declared.host.Place.{Place};
 ghost use Rattle.tool_io.specs.Log.{Event};
 ghost use Rattle.tool_io.specs.Host.{IsSource, IsSink, AttachCause, AttachLog, ReadRange, ReadCause, ReadLog, ReadLeft, WriteRange, WriteCause, WriteLog, LeftElsewhere, LeftAlone};
 
-/// Where bytes come from or go to. `Out` and `Err` are written, the others are read.
+/// A source or a sink of bytes. `Out` and `Err` are written, the others are read.
 #[derive(Clone, Copy, PartialEq, Eq)]
 pub enum Place {
     /// A specification.
@@ -22,16 +22,16 @@ pub enum Place {
     Err,
 }
 
-/// How an attach ended.
+/// The result of an attach.
 #[derive(Clone, Copy, PartialEq, Eq, Debug)]
 pub enum Attached {
     /// The place is attached to the name.
     Ready,
-    /// It doesn't; the place's count of faults rose by one.
+    /// The attach failed; the place's count of faults rose by one.
     Failed,
 }
 
-/// How a read ended.
+/// The result of a read.
 #[derive(Clone, Copy, PartialEq, Eq)]
 pub enum Got {
     /// This many bytes were read to the start of the slice, at least one.
@@ -42,7 +42,7 @@ pub enum Got {
     Failed,
 }
 
-/// How a write ended.
+/// The result of a write.
 #[derive(Clone, Copy, PartialEq, Eq)]
 pub enum Put {
     /// This many bytes from the start of the piece went out.
@@ -51,13 +51,14 @@ pub enum Put {
     Failed,
 }
 
-/// What a program reads from and writes to.
+/// A host: the files and streams of a program.
 ///
-/// `faults` counts the failed calls of each place; a count never falls, and stays at 2^64 - 1 once it is there.
-/// `log`, where the host shows it, is the list of its events. `left`, where it is shown, is what a place has still to
-/// read. A call that fails raises the count of its place by one, and only a failed attach may log an event, `Missed`;
-/// every other call leaves all counts, and logs one event. So the calls of a place are its faults and its events
-/// other than `Missed` together. `Out` and `Err` are the standard streams until they are attached elsewhere.
+/// `faults` counts the failed calls of each place; a count never falls, and stays at 2^64 - 1 once
+/// it is there. `log`, if the host shows it, is the list of its events. `left`, if it is shown, is
+/// what a place has still to read. A call that fails raises the count of its place by one, and only
+/// a failed attach may log an event, `Missed`; every other call leaves all counts, and logs one
+/// event. So the calls of a place are its faults and its events other than `Missed` together. `Out`
+/// and `Err` are the standard streams until they are attached elsewhere.
 pub trait Host {
     ghost faults: { Self → Place → ℕ };
 
@@ -65,7 +66,7 @@ pub trait Host {
 
     ghost left: { Self → Place → Option (List ℕ) };
 
-    /// Attaches the place to the file of this name, or to what else the name means to the host.
+    /// Attaches the place to the file of this name, or to whatever else the name means to the host.
     fn attach(&mut self, place: Place, name: &str) -> Attached
         ensures cause { AttachCause result (faults self.old) (faults self.new) place }
         ensures log { AttachLog result (log self.old) (log self.new) place name.now }

@@ -1,5 +1,6 @@
-//! The bytes that a program reads and writes: the host between it and its files, and what is built on a host alone,
-//! such as writing a whole piece, reading a whole place and cutting a stream into lines.
+//! The bytes that a program reads and writes: the host between it and its files, and calls that
+//! need only a host, such as writing a whole piece, reading a whole place and cutting a stream into
+//! lines.
 #![tactic(auto)]
 
 mod counts;

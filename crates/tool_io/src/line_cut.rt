@@ -13,7 +13,7 @@ use mltl_base::limits::MAX_LINE_BYTES;
 use std::alloc::{AllocError, Global};
 use std::marker::Model;
 
-/// What the next line of a place is.
+/// The result of a call for the next line.
 #[derive(Clone, Copy)]
 pub enum Line {
     /// One more line is ready.
@@ -26,23 +26,22 @@ pub enum Line {
     ReadFault,
 }
 
-/// A stream of bytes that is cut at its newlines, by one buffer of 65,536 bytes.
-///
-/// It allocates where it is made and never again. It reads only where the buffer holds no whole line.
+/// A stream of bytes that is cut at its newlines, with one buffer of 65,536 bytes.
+/// It allocates only in `make`, and reads only if the buffer holds no whole line.
 #[derive(Drop)]
 pub struct LineCut {
     buffer: Fixed<u8>,
-    /// Where the line of the last Row begins.
+    /// The start of the line of the last Row.
     start: usize,
-    /// Where the bytes after it begin, which aren't cut yet.
+    /// The start of the bytes after that line, which aren't cut yet.
     next: usize,
-    /// Where they end.
+    /// The end of these bytes.
     end: usize,
-    /// Whether the last result was a Row.
+    /// True if the last result was a Row.
     row: bool,
-    /// Whether its line comes once more.
+    /// True if the line of that Row is to come once more.
     kept: bool,
-    /// Whether a read met the end.
+    /// True if a read met the end.
     ended: bool,
     /// The number of the last line, from 1.
     number: u64,
@@ -60,7 +59,7 @@ impl Model for LineCut {
     ghost invariant = { HoldsRows };
 }
 
-/// The place of the first newline.
+/// Returns the place of the first newline.
 #[tactic(auto, using(crate::proofs::Newlines::first_is_position))]
 fn first_newline(bytes: &[u8]) -> Option<usize>
     ensures { result ≡ position (λ byte. byte == 10) bytes.now }
@@ -79,7 +78,7 @@ fn move_to_front(buffer: &mut [u8], next: usize, end: usize)
     }
 }
 
-/// Reads after the first `len` bytes.
+/// Reads into the buffer after its first `len` bytes.
 fn read_after<H: Host>(host: &mut H, place: Place, buffer: &mut [u8], len: usize) -> Got
     requires source { IsSource place }
     requires room { len < length buffer.old }
@@ -95,7 +94,7 @@ impl LineCut {
     ghost use Rattle.mltl_base.specs.declared.limits.TheConstants.{MAX_LINE_BYTES};
     ghost use Rattle.tool_io.specs.Buffer.{CutsFront, FillsCut};
 
-    /// A cut before the first byte, with room for the longest line.
+    /// Creates a cut before the first byte, with room for the longest line.
     pub fn make(alloc: Global) -> Result<LineCut, AllocError>
         ensures { IfOk result (λ cut. cut ≡ fresh) }
     {
@@ -111,10 +110,10 @@ impl LineCut {
         })
     }
 
-    /// Cuts the next line off the bytes of the place, which it reads only where the buffer holds no whole line.
+    /// Cuts the next line off the bytes of the place. Reads only if the buffer holds no whole line.
     ///
-    /// A last line without a newline is a Row once the end was reached. After `End` and `LongLine` every later call
-    /// returns the same; after `ReadFault` a later call tries again.
+    /// A last line without a newline is a Row once the end is reached. After `End` and `LongLine`
+    /// every later call returns the same; after `ReadFault` a later call tries again.
     pub fn next_line<H: Host>(&mut self, host: &mut H, place: Place) -> Line
         requires { IsSource place }
         ensures cause { LineCause result (H.faults host.old) (H.faults host.new) place }
@@ -130,7 +129,7 @@ impl LineCut {
         self.cut_next(host, place)
     }
 
-    /// The line of the last Row, without its newline and without one carriage return before it.
+    /// Returns the line of the last Row, without its newline and one carriage return before it.
     pub fn line(&self) -> &[u8]
         requires { IsSome self.now.row }
         ensures { result.now ≡ line_text (row_of self.now) }
@@ -143,7 +142,8 @@ impl LineCut {
         }
     }
 
-    /// The number of the last line, from 1; 0 before the first. A line that comes once more keeps its number.
+    /// Returns the number of the last line, from 1; 0 before the first. A line that comes once more
+    /// keeps its number.
     pub fn number(&self) -> u64
         ensures { result ≡ self.now.number }
     {
@@ -158,7 +158,7 @@ impl LineCut {
         self.kept = true;
     }
 
-    /// How many bytes aren't cut yet.
+    /// Returns the number of bytes that aren't cut yet.
     fn pending_len(&self) -> usize
         requires { self.now.kept ≡ false }
         ensures len { result ≡ length self.now.pending }
@@ -167,7 +167,7 @@ impl LineCut {
         self.end - self.next
     }
 
-    /// The length of the first whole line, where the first `seen` bytes hold no newline.
+    /// Returns the length of the first whole line, if the first `seen` bytes hold no newline.
     fn line_len(&self, seen: usize) -> Option<usize>
         requires plain { self.now.kept ≡ false }
         requires within { seen ≤ length self.now.pending }
@@ -180,7 +180,7 @@ impl LineCut {
         Some(seen + at + 1)
     }
 
-    /// Gives the first bytes as a row.
+    /// Makes the first bytes a row.
     fn cut(&mut self, len: usize)
         requires plain { self.old.kept ≡ false }
         requires within { len ≤ length self.old.pending }
@@ -194,7 +194,7 @@ impl LineCut {
         self.number = self.number.saturating_add(1);
     }
 
-    /// Reads once after the bytes that aren't cut yet, which move to the front before.
+    /// Reads once after the bytes that aren't cut yet, which first move to the front.
     fn fill<H: Host>(&mut self, host: &mut H, place: Place) -> Got
         requires source { IsSource place }
         requires no_row { self.old.row ≡ None }
@@ -218,7 +218,7 @@ impl LineCut {
         got
     }
 
-    /// Cuts the next line, where the last one isn't kept.
+    /// Cuts the next line, if the last one isn't kept.
     fn cut_next<H: Host>(&mut self, host: &mut H, place: Place) -> Line
         requires source { IsSource place }
         requires plain { self.old.kept ≡ false }

@@ -1,4 +1,4 @@
-//! Files in memory, and where each place reads in them.
+//! Files in memory, and the position of each place in them.
 
 ghost use Rattle.std.specs.Prelude.{◌≡◌, ◌≢◌, ◌≤◌, ℕ, List, [], ◌∷◌, ◌++◌, IfOk, OnOk, OnErr, Some, None, length, drop, position, ◌-◌};
 ghost use Rattle.std.specs.Option.{ForSome, option_copied, is_some};
@@ -28,7 +28,7 @@ impl Model for MemFile {
 }
 
 impl MemFile {
-    /// A file of this name with these bytes.
+    /// Creates a file of this name with these bytes.
     pub fn make(alloc: Global, name: &str, bytes: &[u8]) -> Result<MemFile, AllocError>
         ensures { IfOk result (λ file. file ≡ record { name = name.now; bytes = bytes.now }) }
     {
@@ -37,21 +37,21 @@ impl MemFile {
         Ok(MemFile { name, bytes })
     }
 
-    /// Whether the file has this name.
+    /// Returns true if the file has this name.
     pub fn is_named(&self, name: &str) -> bool
         ensures { result ≡ has_file_name name.now self.now }
     {
         self.name.as_str() == name
     }
 
-    /// How many bytes it has.
+    /// Returns the number of bytes.
     pub fn len(&self) -> usize
         ensures { result ≡ length self.now.bytes }
     {
         self.bytes.len()
     }
 
-    /// The last bytes, this many.
+    /// Returns the last `count` bytes.
     pub fn last(&self, count: usize) -> &[u8]
         requires { count ≤ length self.now.bytes }
         ensures { result.now ≡ drop (length self.now.bytes - count) self.now.bytes }
@@ -61,7 +61,7 @@ impl MemFile {
     }
 }
 
-/// Where a place reads: which file, and how many of its bytes are left.
+/// The position of a place: the number of its file, and the number of bytes left.
 #[derive(Clone, Copy)]
 pub struct Cursor {
     pub file: usize,
@@ -78,7 +78,7 @@ pub struct Cursors {
 }
 
 impl Cursors {
-    /// No place is attached.
+    /// Returns positions with no place attached.
     pub fn new() -> Cursors
         ensures { result ≡ no_cursors }
     {
@@ -90,7 +90,7 @@ impl Cursors {
         }
     }
 
-    /// Returns the position of a place; `Out` and `Err` have none.
+    /// Returns the position of a place, or `None` for `Out` and `Err`.
     pub fn at(&self, place: Place) -> Option<Cursor>
         ensures { result ≡ cursor_at self.now place }
     {
@@ -103,7 +103,7 @@ impl Cursors {
         }
     }
 
-    /// Moves a place that is read.
+    /// Sets the position of a place that is read.
     pub fn set(&mut self, place: Place, cursor: Cursor)
         ensures { self.new ≡ with_cursor self.old place cursor }
     {
@@ -117,7 +117,7 @@ impl Cursors {
     }
 }
 
-/// Files by name, and where each place reads in them.
+/// Files by name, and the position of each place in them.
 #[derive(Drop)]
 pub struct MemFiles {
     files: Vec<MemFile>,
@@ -137,7 +137,7 @@ impl Model for MemFiles {
 }
 
 impl MemFiles {
-    /// No files, and no place attached.
+    /// Creates a store without files, with no place attached.
     pub fn new(alloc: Global) -> MemFiles
         ensures { result ≡ no_files }
     {
@@ -147,7 +147,7 @@ impl MemFiles {
         }
     }
 
-    /// Stores these bytes as the file of this name, in place of an older one.
+    /// Stores these bytes as the file of this name, in place of an older file.
     pub fn put(&mut self, name: &str, bytes: &[u8]) -> Result<(), AllocError>
         requires { IsUnread self.old name.now }
         ensures holds { OnOk result (file_of self.new name.now ≡ Some bytes.now) }
@@ -164,7 +164,7 @@ impl MemFiles {
         Ok(())
     }
 
-    /// Attaches a place to the start of the file of this name, if there is one.
+    /// Attaches a place to the start of the file of this name. Returns false if there is none.
     pub fn open(&mut self, place: Place, name: &str) -> bool
         requires { IsSource place }
         ensures found { result ≡ is_some (file_of self.old name.now) }
@@ -178,7 +178,7 @@ impl MemFiles {
         true
     }
 
-    /// The bytes that a place has still to read, if it is attached.
+    /// Returns the bytes that a place has still to read, if it is attached.
     pub fn left(&self, place: Place) -> Option<&[u8]>
         ensures { option_copied result ≡ left_of self.now place }
     {
@@ -186,7 +186,7 @@ impl MemFiles {
         Some(self.files[cursor.file].last(cursor.left))
     }
 
-    /// Passes over `count` of the bytes that a place has still to read.
+    /// Skips `count` of the bytes that a place has still to read.
     pub fn skip(&mut self, place: Place, count: usize)
         requires { ForSome (left_of self.old place) (λ left. count ≤ length left) }
         ensures { self.new ≡ skipped self.old place count }
@@ -198,7 +198,7 @@ impl MemFiles {
     }
 }
 
-/// The first file of this name.
+/// Returns the number of the first file of this name.
 fn position_of(files: &[MemFile], name: &str) -> Option<usize>
     ensures { result ≡ position (has_file_name name.now) files.now }
 {

@@ -1,4 +1,4 @@
-//! A host in memory, for tests: it shows its log and what is left, and fails where it is asked to.
+//! A host in memory, for tests: it shows its log and the bytes left, and fails listed calls.
 
 ghost use Rattle.std.specs.Prelude.{◌≡◌, ◌≢◌, ◌≤◌, ◌<◌, ◌+◌, ℕ, List, [], ◌∷◌, ◌++◌, IfOk, OnOk, OnErr, Some, length, drop, not};
 ghost use Rattle.tool_io.specs.Host.{IsSource, IsSink, AttachCause, AttachLog, ReadRange, ReadCause, ReadLog, ReadLeft, WriteRange, WriteCause, WriteLog, LeftElsewhere, LeftAlone};
@@ -13,7 +13,7 @@ use crate::tape::{Deed, Tape};
 use std::alloc::{AllocError, Global};
 use std::marker::Model;
 
-/// A call that is to fail: the one with this number at this place, counted from 0.
+/// A call that is to fail: its place, and its number at that place, counted from 0.
 #[derive(Clone, Copy)]
 pub struct Listed {
     pub place: Place,
@@ -23,9 +23,10 @@ pub struct Listed {
 /// A host in memory: files by name, a log, counts of calls and of faults for each place, and a list of calls that
 /// are to fail.
 ///
-/// A call fails exactly where it is listed, attaches a place that is read to a name without a file, reads a place
-/// that isn't attached, or needs more events or bytes than the room that is left. Each such call is counted at its
-/// place. A failed attach logs `Missed` where it fits. No call of the trait allocates.
+/// A call fails exactly if it is listed, attaches a place that is read to a name without a file,
+/// reads a place that isn't attached, or needs more events or bytes than there is room for. Each
+/// such call is counted at its place. A failed attach logs `Missed` if it fits. No call of the
+/// trait allocates.
 #[derive(Drop)]
 pub struct MemHost {
     store: MemFiles,
@@ -56,8 +57,9 @@ impl Model for MemHost {
 }
 
 impl MemHost {
-    /// Makes a host without files, with room for `events` events in its log, for `bytes` bytes in them, names among
-    /// them, and for as many bytes on `Out` and on `Err`. No call is listed and no read is limited.
+    /// Creates a host without files, with room for `events` events in its log, for `bytes` bytes in
+    /// them, including names, and for as many bytes on `Out` and on `Err`. No call is listed and no
+    /// read is limited.
     pub fn make(alloc: Global, events: usize, bytes: usize) -> Result<MemHost, AllocError>
         ensures { IfOk result (λ host. host ≡ new_host events bytes) }
     {
@@ -72,7 +74,8 @@ impl MemHost {
         })
     }
 
-    /// Stores these bytes as the file of this name, in place of an older one, which no place may be reading.
+    /// Stores these bytes as the file of this name, in place of an older file, which no place may
+    /// be reading.
     pub fn put_file(&mut self, name: &str, bytes: &[u8]) -> Result<(), AllocError>
         requires { IsUnread self.old.store name.now }
         ensures holds { OnOk result (file_of self.new.store name.now ≡ Some bytes.now) }
@@ -104,21 +107,21 @@ impl MemHost {
         self.block = Some(n);
     }
 
-    /// All bytes that `Out` was given, under whatever name.
+    /// Returns all bytes that `Out` was given, under any name.
     pub fn out(&self) -> &[u8]
         ensures { result.now ≡ given Place.Out self.now.tape.events }
     {
         self.tape.out()
     }
 
-    /// All bytes that `Err` was given, under whatever name.
+    /// Returns all bytes that `Err` was given, under any name.
     pub fn err(&self) -> &[u8]
         ensures { result.now ≡ given Place.Err self.now.tape.events }
     {
         self.tape.err()
     }
 
-    /// Counts a call of a place, and says whether it is listed.
+    /// Counts a call of a place. Returns true if it is listed.
     fn begin(&mut self, place: Place) -> bool
         ensures listed { result ≡ is_listed self.old place }
         ensures after { self.new ≡ noted self.old place }
@@ -130,7 +133,7 @@ impl MemHost {
             .any(|entry| entry.place == place && entry.call == call)
     }
 
-    /// Attaches a place to a name, if there is what it needs.
+    /// Attaches a place to a name. Returns false if its file is missing.
     fn stand(&mut self, place: Place, name: &str) -> bool
         ensures found { result ≡ not (is_missing self.old place name.now) }
         ensures after { self.new ≡ stands self.old place name.now }
@@ -155,7 +158,7 @@ impl MemHost {
         }
     }
 
-    /// What `attach` does.
+    /// Attaches, as `attach` of the host.
     fn attach_name(&mut self, place: Place, name: &str) -> Attached
         ensures answer { result ≡ attach_answer self.old place name.now }
         ensures after { self.new ≡ after_attach self.old place name.now }
@@ -173,7 +176,7 @@ impl MemHost {
         Attached::Ready
     }
 
-    /// What `read` does; a read into some room may give some bytes.
+    /// Reads, as `read` of the host, into a slice that isn't empty.
     fn read_piece(&mut self, place: Place, into: &mut [u8]) -> Got
         requires { 0 < length into.old }
         ensures reads { Reads result self.old self.new place into.old into.new }
@@ -201,7 +204,7 @@ impl MemHost {
         }
     }
 
-    /// What `write` does.
+    /// Writes, as `write` of the host.
     fn write_piece(&mut self, place: Place, piece: &[u8]) -> Put
         ensures answer { result ≡ write_answer self.old place piece.now }
         ensures after { self.new ≡ after_write self.old place piece.now }

@@ -12,7 +12,7 @@ use std::io::{Read, Write};
 use std::marker::Model;
 use std::{fs, io};
 
-/// What a place is attached to.
+/// The stream that a place is attached to.
 #[derive(Drop)]
 enum Stream {
     /// The place's standard stream.
@@ -28,8 +28,8 @@ enum Stream {
 /// A file that was read to its end is closed, so that its descriptor isn't taken for the standard input of a program that
 /// was started without one.
 ///
-/// It counts a fault at each error of the system, at a write that takes nothing, and at a read of a place that isn't
-/// attached. It shows neither a log nor what is left.
+/// It counts a fault at each error of the system, at a write that takes nothing, and at a read of a
+/// place that isn't attached. It shows neither a log nor the bytes left.
 #[derive(Drop)]
 pub struct RealHost {
     rt: HostRuntime,
@@ -58,7 +58,7 @@ impl Model for RealHost {
 }
 
 impl RealHost {
-    /// Makes a host without attached places: `Out` and `Err` are the standard output and error.
+    /// Creates a host without attached places: `Out` and `Err` are the standard output and error.
     pub fn new(rt: HostRuntime) -> RealHost
         ensures { result ≡ new_edge }
     {
@@ -88,7 +88,7 @@ impl RealHost {
     }
 }
 
-/// One read of a stream.
+/// Reads once from a stream.
 fn read_from(stream: &Stream, rt: HostRuntime, into: &mut [u8]) -> io::Result<usize>
     ensures { ReadsAtMost result into.new }
 {
@@ -102,7 +102,7 @@ fn read_from(stream: &Stream, rt: HostRuntime, into: &mut [u8]) -> io::Result<us
     }
 }
 
-/// One read of a place, whose file is closed where the read meets its end.
+/// Reads once from a place, and closes its file if the read meets the end.
 fn read_place(place: &mut Option<Stream>, rt: HostRuntime, into: &mut [u8]) -> io::Result<usize>
     ensures reads { ReadsAtMost result into.new }
     ensures attached { is_some place.new ≡ is_some place.old }
@@ -118,7 +118,7 @@ fn read_place(place: &mut Option<Stream>, rt: HostRuntime, into: &mut [u8]) -> i
     Ok(count)
 }
 
-/// One write to a stream, which for `Err` is the standard error where it is a standard one.
+/// Writes once to a stream; the standard stream of `Err` is the standard error.
 fn write_to(stream: &Stream, rt: HostRuntime, place: Place, piece: &[u8]) -> io::Result<usize>
     ensures { WritesAtMost result piece.now }
 {
@@ -130,7 +130,7 @@ fn write_to(stream: &Stream, rt: HostRuntime, place: Place, piece: &[u8]) -> io:
     }
 }
 
-/// One write, and a flush after it.
+/// Writes once, and flushes.
 fn send<W: Write + Drop>(mut to: W, piece: &[u8]) -> io::Result<usize>
     ensures { WritesAtMost result piece.now }
 {

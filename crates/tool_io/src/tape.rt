@@ -1,4 +1,4 @@
-//! The log of a host in memory, as data that it keeps.
+//! The log of a host in memory, as data.
 
 ghost use Rattle.std.specs.Prelude.{◌≡◌, ◌+◌, ◌<◌, ◌≤◌, [], ◌∷◌, ◌++◌, IfOk, IsTrue, length, vec_len, vec_capacity};
 ghost use Rattle.tool_io.specs.Log.{given};
@@ -9,7 +9,7 @@ use crate::host::Place;
 use std::alloc::{AllocError, Global};
 use std::marker::Model;
 
-/// What a call did, as the kinds of events of a log.
+/// The kind of an event of a log.
 #[derive(Clone, Copy, PartialEq, Eq)]
 pub enum Deed {
     /// A name was attached.
@@ -22,7 +22,7 @@ pub enum Deed {
     Give,
 }
 
-/// One event without its bytes, which follow those of the events before in the tape's buffer.
+/// An event without its bytes, which follow the bytes of earlier events in the tape's buffer.
 #[derive(Clone, Copy)]
 pub struct Mark {
     pub deed: Deed,
@@ -30,7 +30,7 @@ pub struct Mark {
     pub len: usize,
 }
 
-/// A log with room for a number of events and of bytes in them, all of it reserved when it is made.
+/// A log with room for a number of events and bytes, all of it reserved by `make`.
 #[derive(Drop)]
 pub struct Tape {
     marks: Vec<Mark>,
@@ -54,7 +54,8 @@ impl Model for Tape {
 }
 
 impl Tape {
-    /// Makes an empty log with room for `events` events, and for `bytes` bytes in them, on `Out` and on `Err`.
+    /// Creates an empty log with room for `events` events, and for `bytes` bytes in them, on `Out`
+    /// and on `Err`.
     pub fn make(alloc: Global, events: usize, bytes: usize) -> Result<Tape, AllocError>
         ensures { IfOk result (λ tape. tape ≡ new_tape events bytes) }
     {
@@ -72,28 +73,28 @@ impl Tape {
         })
     }
 
-    /// Whether one more event with `count` bytes fits.
+    /// Returns true if one more event with `count` bytes fits.
     pub fn has_room(&self, count: usize) -> bool
         ensures { result ≡ has_room self.now count }
     {
         self.marks.len() < self.most_events && count <= self.most_bytes - self.bytes.len()
     }
 
-    /// The bytes that `Out` was given.
+    /// Returns the bytes that `Out` was given.
     pub fn out(&self) -> &[u8]
         ensures { result.now ≡ given Place.Out self.now.events }
     {
         self.out.as_slice()
     }
 
-    /// The bytes that `Err` was given.
+    /// Returns the bytes that `Err` was given.
     pub fn err(&self) -> &[u8]
         ensures { result.now ≡ given Place.Err self.now.events }
     {
         self.err.as_slice()
     }
 
-    /// Logs one more event. It does not allocate.
+    /// Logs one more event. Does not allocate.
     pub fn tell(&mut self, deed: Deed, place: Place, piece: &[u8])
         requires { IsTrue (has_room self.old (length piece.now)) }
         ensures { self.new ≡ with_event self.old (event_of deed place piece.now) }
@@ -106,7 +107,7 @@ impl Tape {
     }
 }
 
-/// The bytes that a deed at a place gives to another place, or to the same.
+/// Returns the bytes that a deed at a place gives to the place `to`.
 fn given_by(deed: Deed, place: Place, piece: &[u8], to: Place) -> &[u8]
     ensures { result.now ≡ given to (event_of deed place piece.now ∷ []) }
 {
@@ -117,7 +118,7 @@ fn given_by(deed: Deed, place: Place, piece: &[u8], to: Place) -> &[u8]
     }
 }
 
-/// Adds a mark, for which there is room.
+/// Adds a mark to marks that have room for it.
 fn push_mark(marks: &mut Vec<Mark>, mark: Mark)
     requires { vec_len marks.old < vec_capacity marks.old }
     ensures items { marks.new.items ≡ marks.old.items ++ mark ∷ [] }
@@ -126,7 +127,7 @@ fn push_mark(marks: &mut Vec<Mark>, mark: Mark)
     marks.push(mark).unwrap();
 }
 
-/// Adds bytes, for which there is room.
+/// Adds bytes to a vector that has room for them.
 fn append(bytes: &mut Vec<u8>, piece: &[u8])
     requires { vec_len bytes.old + length piece.now ≤ vec_capacity bytes.old }
     ensures items { bytes.new.items ≡ bytes.old.items ++ piece.now }

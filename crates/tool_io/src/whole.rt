@@ -1,4 +1,4 @@
-//! All of a piece written, and a place read to its end.
+//! Whole pieces: writing all of a piece, and reading a place to its end.
 
 ghost use Rattle.std.specs.Prelude.{◌≡◌, []};
 ghost use Rattle.tool_io.specs.Log.{OnLog};
@@ -8,7 +8,7 @@ ghost use Rattle.tool_io.specs.Whole.{PutAllRange, PutAllLog, WholeLog, WholeCau
 use crate::host::{Got, Host, Place, Put};
 use std::alloc::{AllocError, Global};
 
-/// Why a place wasn't read whole.
+/// The reason why a place wasn't read whole.
 #[derive(Clone, Copy)]
 pub enum WholeFault {
     /// More bytes came than the limit allows.
@@ -30,13 +30,13 @@ impl From<AllocError> for WholeFault {
     }
 }
 
-/// How many bytes one read takes at most.
+/// The most bytes of one read.
 const BLOCK: usize = 4096;
 
 /// Writes all of the piece to the place, in as many writes as the host needs.
 ///
-/// Returns `Wrote` with the length of the piece, or `Failed` at the first write that fails; then a prefix of the
-/// piece is out, and the rest, which holds at least one byte, isn't. An empty piece makes no call.
+/// Returns `Wrote` with the length of the piece, or `Failed` at the first write that fails; then a
+/// prefix of the piece is out, and at least one byte isn't. An empty piece makes no call.
 #[inline(always)]
 pub fn put_all<H: Host>(host: &mut H, place: Place, piece: &[u8]) -> Put
     requires { IsSink place }
@@ -56,7 +56,7 @@ pub fn put_all<H: Host>(host: &mut H, place: Place, piece: &[u8]) -> Put
     Put::Wrote(sent)
 }
 
-/// Reads the place to its end, if that comes within the limit of bytes.
+/// Reads the place to its end, which must come within the limit of bytes.
 pub fn read_whole<H: Host>(
     alloc: Global,
     host: &mut H,
