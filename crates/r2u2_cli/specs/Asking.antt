@@ -1,4 +1,4 @@
--- What the arguments of r2u2 request to be attached.
+-- The places that the arguments of r2u2 request to be attached.
 
 use Rattle.std.specs.Prelude.{ℕ, List, [], ◌∷◌}
 use Rattle.tool_io.specs.declared.host.Place.{Place}
@@ -6,7 +6,7 @@ use Rattle.tool_io.specs.declared.host.Place.TheVariants.{Trace}
 use Rattle.tool_words.specs.R2u2Words.{R2u2Request, help, run, demo, nothing}
 use Rattle.tool_words.specs.Files.{file_place}
 
--- the places that are to be attached, with their names, in order
+-- the places that the request attaches, with their names, in order
 abbrev pub asked_names : R2u2Request → List (Place × List ℕ)
 asked_names help = []
 asked_names (run asked) = (file_place asked.kind, asked.file) ∷ (Trace, asked.trace) ∷ []

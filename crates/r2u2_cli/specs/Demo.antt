@@ -1,4 +1,4 @@
--- What a demo writes.
+-- The output of a demo.
 
 use Rattle.std.specs.Prelude.{◌≡◌, ℕ, Option, Some, None, Ok, List, []}
 use Rattle.tool_io.specs.declared.host.Place as place
@@ -19,7 +19,7 @@ pub record KeepsDemo (seed rows : ℕ) (kept : Option State) : Type 0 where
   pub stands : Stands monitor (demo_rows seed rows)
   pub drained : IsDrained monitor
 
--- the summary is out whole, or a proper prefix of it; when out of memory nothing is
+-- the summary is out whole, or a proper prefix of it; if out of memory, nothing is out
 abbrev pub DemoOutcome : status.Status → ℕ → ℕ → List ℕ → Option State → Type 0
 DemoOutcome status.TheVariants.Done seed rows out kept = (out ≡ demo_summary seed rows) × KeepsDemo seed rows kept
 DemoOutcome (status.TheVariants.WriteFault place.TheVariants.Out) seed rows out kept =

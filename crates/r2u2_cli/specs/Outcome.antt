@@ -1,4 +1,4 @@
--- How the result of a run follows from the lines of its trace, with what is out and the monitor that is kept.
+-- The result of a run, by the lines of its trace, with the output and the monitor that is kept.
 
 use Rattle.std.specs.Prelude.{◌≡◌, ◌≢◌, ℕ, ◌⊎◌, Bool, true, false, if◌then◌else◌, Option, Some, None}
 use Rattle.std.specs.Prelude.{Result, Ok, Err, List, []}
@@ -14,17 +14,17 @@ use Rattle.tool_words.specs.declared.status.Status.{Status}
 use Rattle.tool_words.specs.declared.status.Status.TheVariants.{Done, Refused, BadProgram, BadTrace, TooLong, ReadFault}
 use Rattle.tool_words.specs.declared.status.Status.TheVariants.{WriteFault, Memory}
 
--- what the lines of a trace say to the program that runs over them, within the mission time of the arguments: stamped
--- rows where the arguments say so; the first line has the number `first`
+-- the rows of the lines of a trace for the program that runs over them, within the mission time of the arguments: stamped
+-- rows if the arguments request them; the first line has the number `first`
 abbrev pub rows_by : RunAsked → Program → ℕ → List (List ℕ) → TraceRows
 rows_by asked program first raws =
     if asked.timed then stamped_rows program asked.mission first raws else trace_rows program asked.mission first raws
 
--- what the bytes of a trace say
+-- the rows in the bytes of a trace
 abbrev pub rows_over : RunAsked → Program → Bool → List ℕ → TraceRows
 rows_over asked program ended bytes = rows_by asked program 1 (lines_of ended bytes)
 
--- the lines that are due for the bytes of a trace, in the style of the arguments; none without a program
+-- the lines that are due for the bytes of a trace, in the style of the arguments, or none without a program
 abbrev pub due_by : RunAsked → Result Program Status → Bool → List ℕ → List ℕ
 due_by asked (Ok program) ended bytes = due program asked.style (rows_by asked program 1) ended bytes
 due_by asked (Err status) ended bytes = []
@@ -34,7 +34,7 @@ pub record Silent (out : List ℕ) (kept : Option State) : Type 0 where
   pub no_lines : out ≡ []
   pub no_monitor : kept ≡ None
 
--- a monitor is kept, which runs the program, has the rows and has reported them
+-- the kept monitor runs the program, has the rows and has reported them
 abbrev pub KeepsTold : Option State → RunAsked → Result Program Status → Bool → List ℕ → Type 0
 KeepsTold (Some monitor) asked (Ok program) ended bytes =
     HasTold program monitor (rows_over asked program ended bytes).rows
@@ -46,18 +46,18 @@ pub record AllTold (asked : RunAsked) (found : Result Program Status) (ended : B
   pub out_is : out ≡ due_by asked found ended bytes
   pub keeps : KeepsTold kept asked found ended bytes
 
--- a monitor is kept, which is one of the program, and has the rows up to the one whose lines aren't all out
+-- the kept monitor runs the program, and has the rows up to the row whose lines aren't all out
 abbrev pub KeepsFront : Option State → RunAsked → Result Program Status → Bool → List ℕ → List ℕ → Type 0
 KeepsFront (Some monitor) asked (Ok program) ended bytes out =
     HasFront program asked.style monitor (rows_over asked program ended bytes).rows out
 KeepsFront kept asked found ended bytes out = ⊥
 
--- the rows end so
+-- the rows end by this stop
 abbrev pub StopsBy : Stop → RunAsked → Result Program Status → Bool → List ℕ → Type 0
 StopsBy stop asked (Ok program) ended bytes = (rows_over asked program ended bytes).stop ≡ stop
 StopsBy stop asked (Err status) ended bytes = ⊥
 
--- the first line of the trace isn't there yet, and nothing came of it
+-- the first line of the trace isn't there yet, nothing is out, and no monitor was kept
 pub record NotBegun (bytes out : List ℕ) (kept : Option State) : Type 0 where
   pub no_line : lines_of false bytes ≡ []
   pub silent : Silent out kept
@@ -69,13 +69,13 @@ pub record BrokenOff (asked : RunAsked) (found : Result Program Status) (bytes o
   pub clean : StopsBy Clean asked found false bytes
   pub told : AllTold asked found false bytes out kept
 
--- there is no program to run, by this status, and nothing came of it
+-- no program runs, by this status, nothing is out, and no monitor was kept
 pub record NeverRan (status : Status) (found : Result Program Status) (out : List ℕ)
     (kept : Option State) : Type 0 where
   pub refused : found ≡ Err status
   pub silent : Silent out kept
 
--- how a result follows from the bytes of the trace and what is out, by the program that ran over its lines
+-- each result follows from the bytes of the trace and the output, by the program that ran over its lines
 abbrev pub LinesOutcome : Status → RunAsked → Result Program Status → Bool → List ℕ → List ℕ → Option State → Type 0
 LinesOutcome Done asked found ended bytes out kept =
     (ended ≡ true) × StopsBy Clean asked found ended bytes × AllTold asked found ended bytes out kept

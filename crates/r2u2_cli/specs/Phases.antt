@@ -1,4 +1,4 @@
--- What each phase of a run logs.
+-- The log of each phase of a run.
 
 use Rattle.std.specs.Prelude.{◌≡◌, ℕ, ◌<◌, ◌≤◌, ◌⊎◌, Bool, true, false, if◌then◌else◌, Option, Some, None, Result, Ok}
 use Rattle.std.specs.Prelude.{Err, List, [], ◌∷◌, ◌++◌, length}
@@ -28,7 +28,7 @@ use Rattle.r2u2_cli.specs.ProgramBy.{file_refusal, program_by, program_over}
 use Rattle.r2u2_cli.specs.Outcome.{due_by, rows_by, Silent, LinesOutcome}
 use Rattle.r2u2_cli.specs.Taken.{BegunFor, trace_of, trace_ended, lines_in, ReadsFirstLine}
 
--- what was made of a file: a specification that says its items, or the program that its bytes spell
+-- the file was opened: as a specification with the items of the bytes, or as the program in the bytes
 abbrev pub OpensFile : Opened → FileKind → List ℕ → Type 0
 OpensFile (file.Spec spec) kind bytes =
     (kind ≡ kinds.Spec) × (first_refusal bytes ≡ None) × (spec_shape spec ≡ items_in bytes)
@@ -42,28 +42,28 @@ pub record FirstRead (cut : Cutting) (events : List Event) : Type 0 where
   pub pending : cut.pending ≡ concat pieces
   pub ended : cut.ended ≡ meets_end false pieces
 
--- the first line comes before what a cut returns next; or the trace has none
+-- the first line comes before the bytes that a cut returns next, or the trace has no first line
 abbrev pub StandsFirst : Option (List ℕ) → List ℕ → Bool → Type 0
 StandsFirst None pending ended = (pending ≡ []) × (ended ≡ true)
 StandsFirst (Some raw) pending ended =
     (rest : List ℕ) × (pending ≡ raw ++ rest) × (length raw ≤ MAX_LINE_BYTES) × IsRow raw rest ended
 
--- the cut gives the first line of the trace next
+-- the cut returns the first line of the trace next
 pub record IsFirst (cut : Cutting) : Type 0 where
   pub numbered : next_number cut ≡ 1
   pub low : cut.number ≤ 1
   pub stands : StandsFirst cut.row cut.pending cut.ended
 
--- the header, where the first line is one
+-- the header: the first line, if it begins with `#`
 abbrev pub header_of_row : Option (List ℕ) → Option (List ℕ)
 header_of_row None = None
 header_of_row (Some raw) = if begins_header (line_text raw) then Some (line_text raw) else None
 
--- the same of the row that a cut has
+-- the header in the row that a cut has
 abbrev pub cut_header : Cutting → Option (List ℕ)
 cut_header cut = header_of_row cut.row
 
--- the log of reading the first line, or why it gives none
+-- the log of reading the first line, or the fault
 abbrev pub FirstLog : Result Bool status.Status → Cutting → List Event → Type 0
 FirstLog (Ok any) cut events = FirstRead cut events × IsFirst cut
 FirstLog (Err (status.TheVariants.BadTrace number LongLine)) cut events =
@@ -72,7 +72,7 @@ FirstLog (Err (status.TheVariants.ReadFault place.TheVariants.Trace)) cut events
     FirstRead cut events × HasNoNewline cut.pending × (length cut.pending < MAX_LINE_BYTES) × (cut.ended ≡ false)
 FirstLog (Err answer) cut events = ⊥
 
--- the status of a run whose loop ended so
+-- the status of a run, by the ending of its loop
 abbrev pub ending_status : watched.Watched → status.Status
 ending_status watched.TheVariants.Done = status.TheVariants.Done
 ending_status (watched.TheVariants.BadTrace number why) = status.TheVariants.BadTrace number why
@@ -80,7 +80,7 @@ ending_status watched.TheVariants.TooLong = status.TheVariants.TooLong
 ending_status watched.TheVariants.ReadFault = status.TheVariants.ReadFault place.TheVariants.Trace
 ending_status watched.TheVariants.WriteFault = status.TheVariants.WriteFault place.TheVariants.Out
 
--- the loop ran over what the cut had and what was read, with a monitor that is kept; or it was out of memory before
+-- the loop ran over the bytes that the cut had and the bytes that were read, with a monitor that is kept
 pub record RanLoop (program : Program) (asked : RunAsked) (start : Cutting) (answer : status.Status)
     (kept : Option State) (events : List Event) : Type 0 where
   pub cut : Cutting
@@ -96,19 +96,19 @@ pub record NoMemory (answer : status.Status) (kept : Option State) (events : Lis
   pub no_monitor : kept ≡ None
   pub no_events : events ≡ []
 
--- the log of a loop over a trace, where memory came for its monitor
+-- the log of a loop over a trace, or of a run that was out of memory before it
 abbrev pub LoopLog : Program → RunAsked → Cutting → status.Status → Option State → List Event → Type 0
 LoopLog program asked start answer kept events =
     NoMemory answer kept events ⊎ RanLoop program asked start answer kept events
 
--- the header or a limit refused the program, or it was out of memory
+-- the header or a limit refused the program, or the run was out of memory
 pub record NoProgram (asked : RunAsked) (bytes : List ℕ) (start : Cutting) (answer : status.Status)
     (kept : Option State) (events : List Event) : Type 0 where
   pub why : (answer ≡ status.TheVariants.Memory) ⊎ (program_by asked.kind bytes (cut_header start) ≡ Err answer)
   pub no_monitor : kept ≡ None
   pub no_events : events ≡ []
 
--- there is a program, which ran
+-- the header and the limits didn't refuse the program, and it ran
 pub record HasProgram (asked : RunAsked) (bytes : List ℕ) (start : Cutting) (answer : status.Status)
     (kept : Option State) (events : List Event) : Type 0 where
   pub program : Program
@@ -130,7 +130,7 @@ pub record RanLines (asked : RunAsked) (bytes : List ℕ) (answer : status.Statu
   pub begun : BegunFor answer (trace_ended events) (lines_in events)
   pub early : answer ≡ status.TheVariants.Memory → ReadsFirstLine events
 
--- how a run over a trace that is to be attached ends
+-- the ending of a run over a trace that is to be attached
 abbrev pub TraceOutcome : status.Status → RunAsked → List ℕ → List Event → Option State → Type 0
 TraceOutcome (status.TheVariants.OpenFault place.TheVariants.Trace) asked bytes events kept =
     Silent (given place.TheVariants.Out events) kept
@@ -151,14 +151,14 @@ pub record RanTrace (asked : RunAsked) (bytes : List ℕ) (answer : status.Statu
   pub begun : BegunFor answer (trace_ended events) (lines_in events)
   pub early : answer ≡ status.TheVariants.Memory → ReadsFirstLine events
 
--- the file is refused by itself, or it was out of memory
+-- the file is refused by itself, or the run was out of memory
 pub record NotOpened (asked : RunAsked) (bytes : List ℕ) (answer : status.Status) (kept : Option State)
     (events : List Event) : Type 0 where
   pub why : (answer ≡ status.TheVariants.Memory) ⊎ (file_refusal asked.kind bytes ≡ Some answer)
   pub no_monitor : kept ≡ None
   pub no_events : events ≡ []
 
--- it isn't, and the trace was run over
+-- the file isn't refused by itself, and the trace was run over
 pub record IsOpened (asked : RunAsked) (bytes : List ℕ) (answer : status.Status) (kept : Option State)
     (events : List Event) : Type 0 where
   pub unrefused : file_refusal asked.kind bytes ≡ None

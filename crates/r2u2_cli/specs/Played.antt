@@ -9,7 +9,7 @@ use Rattle.r2u2_cli.specs.Summary.{demo_rows}
 use Rattle.r2u2_cli.specs.Tallies.{AreCounted}
 use Rattle.r2u2_cli.specs.Text.{demo_text}
 
--- it has taken this many rows of the demo, and all its reports were returned and are counted
+-- the monitor has taken this many rows of the demo, and all its reports were returned and are counted
 pub record Played (tallies : List Tally) (monitor : State) (seed rows : ℕ) : Type 0 where
   pub program : compile_text demo_text None ≡ Ok (program_of monitor)
   pub taken : taken_by monitor ≡ rows

@@ -1,5 +1,5 @@
--- The program that runs over the lines of a trace, or what refuses it: a specification compiled over the header of
--- the trace, or a program file whose stored signals are in the columns of that header.
+-- The program that runs over the lines of a trace, or its refusal: a specification compiled over the header of the trace, or
+-- a program file whose stored signals are in the columns of that header.
 
 use Rattle.std.specs.Prelude.{ℕ, ◌==◌, Bool, true, false, if◌then◌else◌, Option, Some, None, option_map, Result, Ok}
 use Rattle.std.specs.Prelude.{Err, List, [], ◌∷◌}
@@ -31,16 +31,16 @@ trace_status (compile_fault.BadHeader (why.Missing name)) = BadTrace 1 (trace.Mi
 trace_status (compile_fault.BadHeader (why.Twice name)) = BadTrace 1 (trace.Twice name)
 trace_status fault = compile_status fault
 
--- of one whose header doesn't name the program's signals
+-- the status of a run whose header doesn't name the program's signals
 abbrev pub header_status : HeaderFault → Status
 header_status fault = trace_status (header_refusal fault)
 
--- the status of a fault, where there is one
+-- the status of a fault, if there is one
 abbrev pub refusal_of : Result Program FileFault → Option Status
 refusal_of (Ok program) = None
 refusal_of (Err fault) = Some (file_status fault)
 
--- what refuses a file by itself
+-- the status by which a file is refused by itself, if it is
 unfoldable pub file_refusal : FileKind → List ℕ → Option Status
 file_refusal kinds.Spec file = option_map compile_status (first_refusal file)
 file_refusal kinds.Program file = refusal_of (opened file)
@@ -51,28 +51,28 @@ bound_under None program = Ok program
 bound_under (Some line) program =
     if program.version == 2 then with_status header_status (bound_to program line) else Ok program
 
--- the same of a file, where it is a program
+-- the program that was opened from a file, under the header of a trace
 abbrev pub opened_under : Option (List ℕ) → Result Program FileFault → Result Program Status
 opened_under header (Ok program) = bound_under header program
 opened_under header (Err fault) = Err (file_status fault)
 
--- the program of a file under the header of a trace; or the first that refuses it
+-- the program of a file under the header of a trace, or the first refusal
 unfoldable pub program_by : FileKind → List ℕ → Option (List ℕ) → Result Program Status
 program_by kinds.Spec file header = with_status trace_status (compile_text file header)
 program_by kinds.Program file header = opened_under header (opened file)
 
--- the header of a trace: its first line, where that begins with `#`
+-- the header of a trace: its first line, if it begins with `#`
 abbrev pub header_in : List (List ℕ) → Option (List ℕ)
 header_in [] = None
 header_in (raw ∷ raws) = if begins_header (line_text raw) then Some (line_text raw) else None
 
--- what was found, unless the first line is too long
+-- the program, unless the first line is too long
 abbrev pub unless_long : Bool → Result Program Status → Result Program Status
 unless_long true found = Err (BadTrace 1 trace.LongLine)
 unless_long false found = found
 
--- The program that runs over the lines of a trace, or the first that refuses it: the file by itself, then a first line
--- that is too long, then the header, then the limits of a program.
+-- The program that runs over the lines of a trace, or the first refusal: the file by itself, then a first line that is too
+-- long, then the header, then the limits of a program.
 unfoldable pub program_over : FileKind → List ℕ → List (List ℕ) → Result Program Status
 program_over kind file lines =
     unless_refused (file_refusal kind file) (unless_long (begins_long lines) (program_by kind file (header_in lines)))

@@ -1,4 +1,4 @@
--- What a whole run of r2u2 logs: from its arguments to its message.
+-- The log of a whole run of r2u2, from its arguments to its message.
 
 use Rattle.std.specs.Prelude.{◌≡◌, ℕ, ◌<◌, ◌≤◌, ◌⊎◌, Bool, true, false, Option, None, Result}
 use Rattle.std.specs.Prelude.{List, [], length, ⊤}
@@ -27,7 +27,7 @@ use Rattle.r2u2_cli.specs.Formulas.{IsSettledBy}
 abbrev pub file_in : RunAsked → List Event → List ℕ
 file_in asked events = taken (file_place asked.kind) events
 
--- whether its end was met
+-- the end of the file was met
 abbrev pub file_ended : RunAsked → List Event → Bool
 file_ended asked events = ended_from false (file_place asked.kind) events
 
@@ -41,13 +41,13 @@ pub record IsReadable (asked : RunAsked) (file : List ℕ) (ended : Bool) : Type
   pub within : length file ≤ file_limit asked.kind
   pub unrefused : file_refusal asked.kind file ≡ None
 
--- the trace, which comes second, is tried only after a file that is readable
+-- the trace, which comes second, is attached only after a file that is readable
 abbrev pub TriesSecond : R2u2Request → List Event → Type 0
 TriesSecond (run asked) events =
     1 < length (names_of events) → IsReadable asked (file_in asked events) (file_ended asked events)
 TriesSecond other events = ⊤
 
--- before each read of the trace, the lines that are due for what was taken are out, and nothing else
+-- before each read of the trace, the lines that are due for the bytes that were taken are out, and nothing else
 abbrev pub IsPrompt : R2u2Request → List Event → Type 0
 IsPrompt (run asked) events = Prompt (due_by asked (found_in asked events) false) [] events
 IsPrompt other events = Prompt (λ bytes. []) [] events
@@ -66,7 +66,7 @@ pub record ByLines (answer : status.Status) (asked : RunAsked) (file : List ℕ)
   pub within : length file ≤ file_limit asked.kind
   pub lines : LinesOutcome answer asked (program_over asked.kind file (lines_of ended bytes)) ended bytes out kept
 
--- how each result of a run over a trace follows from the bytes that were read and written
+-- each result of a run over a trace follows from the bytes that were read and written
 abbrev pub FileOutcome : status.Status → RunAsked → List ℕ → Bool → List ℕ → Bool → List ℕ → Option State → Type 0
 FileOutcome (status.TheVariants.OpenFault place.TheVariants.Trace) asked file file_end bytes ended out kept =
     IsReadable asked file file_end × Silent out kept
@@ -91,13 +91,13 @@ HelpOutcome (status.TheVariants.WriteFault place.TheVariants.Out) out kept =
 HelpOutcome status.TheVariants.Memory out kept = Silent out kept
 HelpOutcome answer out kept = ⊥
 
--- invalid arguments
+-- nothing is out after invalid arguments, and no monitor is kept
 abbrev pub NothingOutcome : status.Status → List ℕ → Option State → Type 0
 NothingOutcome status.TheVariants.Usage out kept = Silent out kept
 NothingOutcome status.TheVariants.Memory out kept = Silent out kept
 NothingOutcome answer out kept = ⊥
 
--- how each result follows from the arguments and from the log
+-- each result follows from the arguments and from the log
 abbrev pub OutcomeOf : status.Status → R2u2Request → List Event → Option State → Type 0
 OutcomeOf answer help events kept = HelpOutcome answer (given place.TheVariants.Out events) kept
 OutcomeOf answer nothing events kept = NothingOutcome answer (given place.TheVariants.Out events) kept
@@ -106,7 +106,7 @@ OutcomeOf answer (run asked) events kept =
     FileOutcome answer asked (file_in asked events) (file_ended asked events) (trace_of events) (trace_ended events)
     (given place.TheVariants.Out events) kept
 
--- where the file isn't refused by itself, the limits of a program refuse it only after the trace has begun
+-- if the file isn't refused by itself, the limits of a program refuse it only after the trace has begun
 abbrev pub RefusesAfter : R2u2Request → status.Status → List Event → Type 0
 RefusesAfter (run asked) answer events =
     file_refusal asked.kind (file_in asked events) ≡ None → BegunFor answer (trace_ended events) (lines_in events)
@@ -124,8 +124,8 @@ pub record Ran (asked : R2u2Request) (answer : status.Status) (kept : Option Sta
   pub early : answer ≡ status.TheVariants.Memory → ReadsFirstLine events
   pub quiet : is_used place.TheVariants.Err events ≡ false
 
--- A file and a header that give a program, and a trace without a faulty line and within the mission time, give Done,
--- unless out of memory, and so does a demo; help is given where it is asked for.
+-- A run ends with Done, unless out of memory, if a file and a header have a program, and the trace has no faulty line and is
+-- within the mission time. A demo ends with Done, and help is printed on request, unless out of memory.
 abbrev pub CompletesBy : R2u2Request → status.Status → List Event → Type 0
 CompletesBy (run asked) answer events =
     length (file_in asked events) ≤ file_limit asked.kind
@@ -135,8 +135,7 @@ CompletesBy help answer events = (answer ≡ status.TheVariants.Helped) ⊎ (ans
 CompletesBy (demo seed rows) answer events = (answer ≡ status.TheVariants.Done) ⊎ (answer ≡ status.TheVariants.Memory)
 CompletesBy nothing answer events = ⊤
 
--- The log of a whole run: the message is out, or a prefix of it, and the run completes where no call failed but those
--- at Err.
+-- The log of a whole run: the message is out, or a prefix of it, and the run completes if no call failed but calls at Err.
 pub record IsRun (asked : R2u2Request) (answer : status.Status) (kept : Option State) (before now : place.Place → ℕ)
     (events : List Event) : Type 0 where
   pub names : IsFront (names_of events) (asked_names asked)

@@ -51,20 +51,20 @@ out_words (out.Contract engine i j name) = contract_verdicts
 abbrev pub listed_out : Out → Listed
 listed_out o = record { name = out_name o; words = out_words o }
 
--- how often a verdict was reported
+-- the text of a verdict and the number of its reports
 abbrev pub count_text : Word → ℕ → List ℕ
 count_text w n = codes " " ++ word_text w ++ codes "=" ++ decimal n
 
--- the line of an output: its name, and how often each of its verdicts was reported
+-- the line of an output: its name, and the number of reports of each of its verdicts
 abbrev pub summary_line : Listed → (Word → ℕ) → List ℕ
 summary_line o count = o.name ++ codes ":" ++ concat (map (λ w. count_text w (count w)) o.words) ++ codes "\n"
 
--- the lines of outputs, of which the first has the number k
+-- the lines of outputs, if the first has the number k
 unfoldable pub lines_from : ℕ → List Listed → List Report → List ℕ
 lines_from k [] told = []
 lines_from k (o ∷ outs) told = summary_line o (λ w. count_of k w told) ++ lines_from (suc k) outs told
 
--- the number of rows, and a line for each output
+-- the summary: the number of rows, and a line for each output
 abbrev pub summary_of : ℕ → List Listed → List Report → List ℕ
 summary_of rows outs told = codes "rows=" ++ decimal rows ++ codes "\n" ++ lines_from 0 outs told
 
@@ -72,10 +72,10 @@ summary_of rows outs told = codes "rows=" ++ decimal rows ++ codes "\n" ++ lines
 abbrev pub demo_rows : ℕ → ℕ → List Row
 demo_rows seed rows = map (demo_row seed) (range_with_len 0 rows)
 
--- the reports of the text's formulas over these rows, whose signals are in the order of declaration
+-- the reports of the text's formulas over these rows, with its signals in the order of declaration
 abbrev pub demo_reports : ℕ → ℕ → List Report
 demo_reports seed rows = reports Each (plain_outputs (columns_in_order 3) (outputs_in demo_text)) (demo_rows seed rows)
 
--- the summary of this many rows that are made from a seed
+-- the summary of this many rows that are generated from a seed
 unfoldable pub demo_summary : ℕ → ℕ → List ℕ
 demo_summary seed rows = summary_of rows (map summary_entry (outputs_in demo_text)) (demo_reports seed rows)

@@ -1,4 +1,4 @@
--- What a run has taken of its trace, and what waits for its first line.
+-- The bytes that a run has taken of its trace, and the events that wait for its first line.
 
 use Rattle.std.specs.Prelude.{◌≡◌, ℕ, Bool, false, List, ◌∷◌, ◌++◌, ⊤}
 use Rattle.tool_io.specs.declared.host.Place.TheVariants.{Trace}
@@ -12,11 +12,11 @@ use Rattle.tool_words.specs.FirstLine.{HasBegun}
 abbrev pub trace_of : List Event → List ℕ
 trace_of events = taken Trace events
 
--- whether its end was met
+-- the end of the trace was met
 abbrev pub trace_ended : List Event → Bool
 trace_ended events = ended_from false Trace events
 
--- the lines that it has so far
+-- the lines that were taken of the trace
 abbrev pub lines_in : List Event → List (List ℕ)
 lines_in events = lines_of (trace_ended events) (trace_of events)
 

@@ -1,4 +1,4 @@
--- The text of the demo, and what it says.
+-- The text of the demo, and its outputs.
 
 use Rattle.std.specs.Prelude.{ℕ, List, [], ◌∷◌, ◌++◌, codes, pos}
 use Rattle.mltl_base.specs.declared.interval.Engine.TheVariants.{Ft, Pt}
@@ -7,7 +7,7 @@ use Rattle.mltl_base.specs.Formula.{Formula, atom, implication, finally, globall
 use Rattle.mltl_base.specs.Reports.{formula, contract}
 use Rattle.mltl_base.specs.Subformulas.{Asked}
 
--- its signals; a future formula, a formula over integers and a contract; and a past formula
+-- the text of the demo: its signals, a future formula, a formula over integers, a contract, and a past formula
 abbrev pub demo_text : List ℕ
 demo_text =
     codes "INPUT a, b: bool; x: int;\n"

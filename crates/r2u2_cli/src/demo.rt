@@ -1,4 +1,5 @@
-//! The demo: requirements, rows that are made from a seed, a run over them, and its summary. It reads no file.
+//! The demo: requirements, rows that are generated from a seed, a run over them, and its summary.
+//! It reads no file.
 
 ghost use Rattle.std.specs.Prelude.{◌≡◌, ◌≢◌, None, Some};
 ghost use Rattle.tool_io.specs.Log.{OnLog};
@@ -17,7 +18,8 @@ use std::alloc::Global;
 use tool_io::{Host, Place, Put, put_all};
 use tool_words::Status;
 
-/// Runs the demo over `rows` rows that are made from the seed, keeps its monitor, and writes its summary on `Out`.
+/// Runs the demo over `rows` rows that are generated from the seed, keeps its monitor, and writes
+/// its summary on `Out`.
 pub(crate) fn give_demo<H: Host>(
     alloc: Global,
     seed: u32,

@@ -1,4 +1,4 @@
-//! What a run reads before its rows: the first line of the trace.
+//! The first line of the trace, which a run reads before its rows.
 
 ghost use Rattle.std.specs.Prelude.{◌≡◌, ◌<◌, IfOk, is_some, length};
 ghost use Rattle.std.specs.Option.{ForSome, option_copied};
@@ -14,7 +14,8 @@ use r2u2_watch::TraceWhy;
 use tool_io::{Host, Line, LineCut, Place};
 use tool_words::Status;
 
-/// Reads the first line of the trace, and makes the cut return it once more. Returns whether there is one.
+/// Reads the first line of the trace, and makes the cut return it once more. Returns true if there
+/// is one.
 pub(crate) fn read_first_line<H: Host>(cut: &mut LineCut, host: &mut H) -> Result<bool, Status>
     requires { cut.old ≡ fresh }
     ensures cause { PhaseCause result (H.faults host.old) (H.faults host.new) }
@@ -32,7 +33,7 @@ pub(crate) fn read_first_line<H: Host>(cut: &mut LineCut, host: &mut H) -> Resul
     }
 }
 
-/// The header: the first line of the trace, where there is one and it begins with `#`.
+/// Returns the header: the first line of the trace, if there is one and it begins with `#`.
 pub(crate) fn header_line(cut: &LineCut, any: bool) -> Option<&[u8]>
     requires any { any ≡ is_some cut.now.row }
     requires first { IsFirst cut.now }

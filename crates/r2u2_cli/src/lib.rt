@@ -1,4 +1,4 @@
-//! The runs of the monitor `r2u2`: its top call, with what it is made of.
+//! The runs of the monitor `r2u2`: its top call and the phases of it.
 //!
 //! [`r2u2_main`] reads the arguments, and the specification or the program that they name. Then [`run_bytes`] runs
 //! over the trace; or the demo runs, which needs no file.

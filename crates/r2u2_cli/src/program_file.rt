@@ -1,4 +1,4 @@
-//! From the bytes of a file to the program that runs over a trace.
+//! The program of a file that runs over a trace.
 
 ghost use Rattle.std.specs.Prelude.{◌≡◌, ◌≢◌, ◌<◌, ◌≤◌, Err, List as Seq, ℕ, None, Ok, OnOk, Option as Maybe, Some, IfErr, IfOk, length};
 ghost use Rattle.std.specs.Option.{ForSome, option_copied};
@@ -27,7 +27,7 @@ pub(crate) enum Opened {
     Program(Checked),
 }
 
-/// What the bytes of a specification, or of a program file, represent.
+/// Opens the bytes of a specification, or of a program file.
 pub(crate) fn open_file(alloc: Global, kind: FileKind, bytes: &[u8]) -> Result<Opened, Status>
     requires { length bytes.now ≤ file_limit kind }
     ensures opens { IfOk result (λ opened. OpensFile opened kind bytes.now) }
@@ -65,7 +65,7 @@ fn open_program(alloc: Global, bytes: &[u8]) -> Result<Opened, Status>
     Ok(Opened::Program(checked))
 }
 
-/// The program that runs over a trace with this header, or with none.
+/// Returns the program that runs over a trace with this header, or with none.
 pub(crate) fn program_for(
     alloc: Global,
     opened: Opened,
@@ -101,7 +101,8 @@ fn compiled(alloc: Global, spec: &TypedSpec, header: Option<&[u8]>) -> Result<Ch
     back(alloc, spec, &columns).map_err(status_of_trace)
 }
 
-/// Moves the stored signals of a program to the columns of a header. A program of version 1 stores none.
+/// Moves the stored signals of a program to the columns of a header. A program of version 1 stores
+/// none.
 fn bound_under_header(
     alloc: Global,
     checked: Checked,
@@ -122,8 +123,8 @@ fn bound_under_header(
     }
 }
 
-/// The status of a run whose specification isn't compiled under the header of its trace. A name that the header lacks,
-/// or has twice, is a fault of the first line.
+/// Returns the status of a run whose specification isn't compiled under the header of its trace. A
+/// name that the header lacks, or has twice, is a fault of the first line.
 fn status_of_trace(fault: CompileFault) -> Status
     ensures status { result ≡ trace_status fault }
     ensures no_call { TellsNoCall result }

@@ -36,7 +36,7 @@ fn run_file<H: Host>(
     }
 }
 
-/// Does what was asked for.
+/// Runs the request of the arguments.
 fn run_asked<H: Host>(
     alloc: Global,
     asked: R2u2Ask<'_>,
@@ -58,7 +58,7 @@ fn run_asked<H: Host>(
     }
 }
 
-/// Does what the arguments request.
+/// Reads the arguments, and runs their request.
 fn run<H: Host>(alloc: Global, words: &Words, host: &mut H, kept: &mut Option<Monitor>) -> Status
     requires none_kept { kept.old ≡ None }
     ensures usage { result ≢ Status.Memory → (result ≡ Status.Usage) ↔ (ask words.now ≡ nothing) }
@@ -73,10 +73,11 @@ fn run<H: Host>(alloc: Global, words: &Words, host: &mut H, kept: &mut Option<Mo
     }
 }
 
-/// Runs r2u2: does what the arguments request, and prints on `Err` what went wrong.
+/// Runs r2u2: runs the request of the arguments, and prints on `Err` the message of a failure.
 ///
-/// It runs over a trace, with a specification or with a program file, runs the demo, or gives help. Before it reads on in
-/// the trace, the verdict lines of all whole lines that it has taken are out. The monitor that ran is left in `kept`.
+/// It runs over a trace, with a specification or with a program file, runs the demo, or prints
+/// help. Before it reads on in the trace, the verdict lines of all whole lines that it has taken
+/// are out. The monitor that ran is left in `kept`.
 pub fn r2u2_main<H: Host>(
     alloc: Global,
     words: &Words,

@@ -1,5 +1,5 @@
-//! What program files report that are images of specifications: the law is the contract of a function with an empty
-//! body.
+//! The law of program files that are images of specifications: the contract of a function with an
+//! empty body.
 
 ghost use Rattle.std.specs.Prelude.{◌≡◌, List as Seq, Ok, Option as Maybe, ℕ};
 ghost use Rattle.mltl_base.specs.Atoms.{Row};
@@ -15,9 +15,10 @@ ghost use Rattle.r2u2_cli.specs.Settled.{TellsText};
 
 /// A program file that is the image of a specification reports the specification's plain formulas, under its names.
 ///
-/// In version 2 these are over the columns that the header of the trace names, or without one over those of the image. So
-/// they are in simplified form, where each word is settled for the plain formula and comes within its delay. In version
-/// 1, which stores no signals, they are over those of the image under any header.
+/// In version 2 these are over the columns that the header of the trace names, or without a header
+/// over the image's own columns. Images in simplified form report them too: each word is settled
+/// for the plain formula and comes within its delay. In version 1, which stores no signals, they
+/// are over the image's own columns under any header.
 pub fn images_tell_their_texts()
     ensures image { (style : Style) (text file : Seq ℕ) (own : Places) (header : Maybe (Seq ℕ))
         (program : Observer) (rows : Seq Row) → IsImageFile text own file →

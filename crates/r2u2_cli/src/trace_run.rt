@@ -20,7 +20,7 @@ use std::alloc::Global;
 use tool_io::{Attached, Host, LineCut, Place};
 use tool_words::{Run, Status};
 
-/// Opens the bytes of the file, lets them go, and runs over the trace.
+/// Opens the bytes of the file, frees them, and runs over the trace.
 pub fn run_bytes<H: Host>(
     alloc: Global,
     asked: &Run<'_>,
@@ -92,7 +92,7 @@ fn run_lines<H: Host>(
     }
 }
 
-/// Makes the program that the first line of the trace asks for, and watches the trace.
+/// Makes the program for the first line of the trace, and watches the trace.
 fn run_rows<H: Host>(
     alloc: Global,
     asked: &Run<'_>,
@@ -141,7 +141,7 @@ fn watch_rows<H: Host>(
     }
 }
 
-/// Watches the trace with a fresh monitor, and keeps that.
+/// Watches the trace with a fresh monitor, and keeps the monitor.
 fn watch_loaded<H: Host>(
     mut monitor: Monitor,
     asked: &Run<'_>,
@@ -163,7 +163,7 @@ fn watch_loaded<H: Host>(
     status_after(watched)
 }
 
-/// Watches the trace, over stamped rows where the arguments say so.
+/// Watches the trace, over stamped rows if the arguments request them.
 fn watch_asked<H: Host>(
     monitor: &mut Monitor,
     cut: &mut LineCut,

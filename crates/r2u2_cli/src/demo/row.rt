@@ -3,7 +3,7 @@
 ghost use Rattle.std.specs.Prelude.{◌≡◌, ◌<◌};
 ghost use Rattle.r2u2_cli.specs.DemoRow.{demo_row as row_at, demo_value as value_at};
 
-/// The row k of the demo, counted from 0, for a seed: `a`, `b` and `x`.
+/// Returns the row k of the demo, counted from 0, for a seed: `a`, `b` and `x`.
 pub fn demo_row(seed: u32, k: u64) -> [i64; 3]
     ensures { result ≡ row_at seed k }
 {
@@ -13,7 +13,7 @@ pub fn demo_row(seed: u32, k: u64) -> [i64; 3]
     [a, b, value as i64 - 500]
 }
 
-/// What a row is made of.
+/// Returns the number from which a row is generated.
 fn demo_value(seed: u32, k: u64) -> u64
     ensures value { result ≡ value_at seed k }
     ensures low { result < 1000 }

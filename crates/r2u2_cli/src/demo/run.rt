@@ -16,15 +16,15 @@ use c2po_compile::{CompileFault, compile};
 use r2u2_monitor::Monitor;
 use std::alloc::{AllocError, Global};
 
-/// A demo that ran: its monitor, and how many reports each output has of each word.
+/// The result of a demo: its monitor, and the summary of its reports.
 #[derive(Drop)]
 pub struct Demo {
     pub monitor: Monitor,
     pub summary: Vec<u8>,
 }
 
-/// Runs a monitor of the demo's text over `rows` rows that are made from a seed, and sums its reports up. It fails
-/// only when out of memory: the text is never refused.
+/// Runs a monitor of the demo's text over `rows` rows that are generated from a seed, and returns
+/// it with the summary of its reports. It fails only if out of memory: the text is never refused.
 pub fn run_demo(alloc: Global, seed: u32, rows: u32) -> Result<Demo, AllocError>
     ensures summary { IfOk result (λ demo. demo.summary.items ≡ demo_summary seed rows) }
     ensures program { IfOk result (λ demo.
@@ -37,7 +37,7 @@ pub fn run_demo(alloc: Global, seed: u32, rows: u32) -> Result<Demo, AllocError>
     Ok(Demo { monitor, summary })
 }
 
-/// Feeds all rows to a fresh monitor of the demo's text, and sums its reports up.
+/// Feeds all rows to a fresh monitor of the demo's text, and returns the summary of its reports.
 fn played(alloc: Global, monitor: &mut Monitor, seed: u32, rows: u32) -> Result<Vec<u8>, AllocError>
     requires program { compile_text DEMO_TEXT.now None ≡ Ok (program_of monitor.old) }
     requires taken { taken_by monitor.old ≡ 0 }
@@ -55,7 +55,7 @@ fn played(alloc: Global, monitor: &mut Monitor, seed: u32, rows: u32) -> Result<
     summary_of(alloc, rows, outs, &tallies)
 }
 
-/// A monitor of the demo's text that has taken no rows.
+/// Makes a monitor of the demo's text that has taken no rows.
 fn demo_monitor(alloc: Global) -> Result<Monitor, AllocError>
     ensures program { IfOk result (λ monitor.
         compile_text DEMO_TEXT.now None ≡ Ok (program_of monitor)) }
@@ -67,7 +67,7 @@ fn demo_monitor(alloc: Global) -> Result<Monitor, AllocError>
     Monitor::load(alloc, checked)
 }
 
-/// What a fault of the demo's text is: the text isn't refused.
+/// Converts a fault of the demo's text. It is out of memory, since the text isn't refused.
 fn want_of_memory(fault: CompileFault) -> AllocError
     requires { fault ≢ CompileFault.Memory → compile_text DEMO_TEXT.now None ≡ Err fault }
 {
@@ -77,7 +77,7 @@ fn want_of_memory(fault: CompileFault) -> AllocError
     }
 }
 
-/// Feeds all rows to a monitor of the demo's text, and counts its reports of each.
+/// Feeds all rows to a monitor of the demo's text, and counts the reports of each.
 fn play(monitor: &mut Monitor, tallies: &mut [Tally], seed: u32, rows: u32)
     requires before { Played tallies.old monitor.old seed 0 }
     ensures after { Played tallies.new monitor.new seed rows }
@@ -87,7 +87,7 @@ fn play(monitor: &mut Monitor, tallies: &mut [Tally], seed: u32, rows: u32)
     }
 }
 
-/// Feeds row k to it, and counts its reports.
+/// Feeds row k to the monitor, and counts its reports.
 fn play_row(monitor: &mut Monitor, tallies: &mut [Tally], seed: u32, k: u32)
     requires few { k < 2 ^ 32 }
     requires before { Played tallies.old monitor.old seed k }
@@ -97,7 +97,7 @@ fn play_row(monitor: &mut Monitor, tallies: &mut [Tally], seed: u32, k: u32)
     drain(monitor, tallies);
 }
 
-/// Gives all reports that a monitor has still to give, and counts them.
+/// Takes all reports that a monitor hasn't returned yet, and counts them.
 fn drain(monitor: &mut Monitor, tallies: &mut [Tally])
     requires counted { (rows : Seq Row) × Stands monitor.old rows
         × AreCounted tallies.old monitor.old rows }

@@ -11,7 +11,8 @@ use itoa::Buffer;
 use mltl_base::{Out, Word};
 use std::alloc::{AllocError, Global};
 
-/// Writes the summary of `rows` rows: a line for each output, with how often each of its verdicts was reported.
+/// Returns the summary of `rows` rows: a line for each output, with the number of reports of each
+/// of its verdicts.
 pub(crate) fn summary_of(
     alloc: Global,
     rows: u32,
@@ -31,7 +32,7 @@ pub(crate) fn summary_of(
     Ok(text)
 }
 
-/// Adds the line of an output.
+/// Appends the line of an output.
 fn add_line(text: &mut Vec<u8>, out: &Out, tally: &Tally) -> Result<(), AllocError>
     ensures { OnOk result (text.new.items
         ≡ text.old.items ++ summary_line (listed_out out.now) (tallied tally.now)) }
@@ -52,7 +53,7 @@ fn add_line(text: &mut Vec<u8>, out: &Out, tally: &Tally) -> Result<(), AllocErr
     text.extend_from_slice(b"\n")
 }
 
-/// Adds how often a verdict was reported.
+/// Appends the number of reports of a verdict.
 fn add_count(text: &mut Vec<u8>, word: Word, tally: &Tally) -> Result<(), AllocError>
     ensures { OnOk result (text.new.items
         ≡ text.old.items ++ count_text word (tallied tally.now word)) }

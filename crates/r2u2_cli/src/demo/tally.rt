@@ -1,4 +1,4 @@
-//! How often each verdict of an output was reported.
+//! The tally of an output: the number of reports of each verdict.
 
 ghost use Rattle.std.specs.Prelude.{◌≡◌, ◌+◌, ◌<◌, ◌^◌, if◌then◌else◌};
 ghost use Rattle.mltl_base.specs.Reports.{same_word};
@@ -7,7 +7,7 @@ ghost use Rattle.r2u2_cli.specs.Tallies.{tallied, none as no_words};
 
 use mltl_base::Word;
 
-/// How often each verdict of an output was reported.
+/// The number of reports of each verdict of an output.
 #[derive(Clone, Copy)]
 pub(crate) struct Tally {
     holds: u64,
@@ -18,7 +18,7 @@ pub(crate) struct Tally {
 }
 
 impl Tally {
-    /// No verdict was reported.
+    /// Makes a tally without reports.
     pub(crate) fn new() -> Tally
         ensures { result ≡ no_words }
     {
@@ -31,7 +31,7 @@ impl Tally {
         }
     }
 
-    /// Counts a word once more.
+    /// Adds one report of a word.
     pub(crate) fn add(&mut self, word: Word)
         requires room { tallied self.old word < 2 ^ 63 }
         ensures { (w : Told)
@@ -46,7 +46,7 @@ impl Tally {
         }
     }
 
-    /// Returns how often a verdict was reported.
+    /// Returns the number of reports of a verdict.
     pub(crate) fn count(&self, word: Word) -> u64
         ensures { result ≡ tallied self.now word }
     {
