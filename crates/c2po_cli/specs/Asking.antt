@@ -1,4 +1,4 @@
--- What the arguments of c2po request, by what it does.
+-- Requests of the arguments of c2po, by product.
 
 use Rattle.std.specs.Prelude.{ℕ, Option, Some, None, option_map, List, [], ◌∷◌, ◌++◌}
 use Rattle.tool_io.specs.declared.host.Place.{Place}
@@ -12,15 +12,15 @@ use Rattle.c2po_cli.specs.declared.make.Product.{Product}
 use Rattle.c2po_cli.specs.declared.make.Product.TheVariants.{Compiled, Upgrade, Show}
 use Rattle.c2po_cli.specs.declared.make.Make as told
 
--- what is made of a file: of a specification its image or its table in one of two forms, maybe under a header; of a
--- program its upgrade or its text; and the file into which it is written, where one is named
+-- a request to make a product: of a specification its image or its table in one of two forms, maybe under a header; of a
+-- program its upgrade or its text; and the file into which it is written, if one is named
 pub record MakeAsked : Type 0 where
   pub product : Product
   pub file : List ℕ
   pub header : Option (List ℕ)
   pub out : Option (List ℕ)
 
--- help, something that is made, or nothing
+-- a request: help, a product, or nothing
 pub data Ask : Type 0 where
   help : Ask
   make : MakeAsked → Ask
@@ -39,11 +39,11 @@ compile_asked asked = record {
 abbrev pub upgrade_asked : List ℕ → List ℕ → MakeAsked
 upgrade_asked out program = record { product = Upgrade; file = program; header = None; out = Some out }
 
--- a program as text, on the standard output where no file is named
+-- a program as text, on the standard output if no file is named
 abbrev pub show_asked : Option (List ℕ) → List ℕ → MakeAsked
 show_asked out program = record { product = Show; file = program; header = None; out = out }
 
--- of what words may ask for
+-- the request of the arguments that were read
 abbrev pub served : C2poRequest → Ask
 served words.help = help
 served (words.compile asked) = make (compile_asked asked)
@@ -51,17 +51,17 @@ served (words.upgrade out program) = make (upgrade_asked out program)
 served (words.show out program) = make (show_asked out program)
 served words.nothing = nothing
 
--- what the arguments request
+-- the request of the arguments
 unfoldable pub ask : List (List ℕ) → Ask
 ask list = served (words.ask list)
 
--- what the file is
+-- the kind of the file
 abbrev pub file_kind : Product → FileKind
 file_kind (Compiled form) = Spec
 file_kind Upgrade = Program
 file_kind Show = Program
 
--- a place with the name of a file, where one is named
+-- a place with the name of a file, if one is named
 abbrev pub place_named : Place → Option (List ℕ) → List (Place × List ℕ)
 place_named p None = []
 place_named p (Some name) = (p, name) ∷ []
@@ -70,13 +70,13 @@ place_named p (Some name) = (p, name) ∷ []
 abbrev pub read_names : MakeAsked → List (Place × List ℕ)
 read_names asked = (file_place (file_kind asked.product), asked.file) ∷ place_named Header asked.header
 
--- the places that are to be attached, with their names, in order: those that are read, and the output
+-- the places that the request attaches, with their names, in order: the places that are read, and the output
 abbrev pub asked_names : Ask → List (Place × List ℕ)
 asked_names help = []
 asked_names (make asked) = read_names asked ++ place_named Out asked.out
 asked_names nothing = []
 
--- what the code holds of it
+-- the request in the code
 abbrev pub make_of : told.Make → MakeAsked
 make_of m =
     record {

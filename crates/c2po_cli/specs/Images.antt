@@ -1,4 +1,4 @@
--- What is written of a specification, or of a program that is upgraded: a program file.
+-- The program file that is written for a specification, or for a program that is upgraded.
 
 use Rattle.std.specs.Prelude.{◌≡◌, ℕ, Bool, true, false, Option, Some, None, Ok, List, ⊤}
 use Rattle.mltl_base.specs.declared.program.Columns.{Columns}
@@ -16,22 +16,23 @@ abbrev pub IsFileBy : Bool → List ℕ → Columns → List ℕ → Type 0
 IsFileBy false text columns file = IsImageFile text columns file
 IsFileBy true text columns file = IsSimpleImageFile text columns file
 
--- so it has over the columns that a header line, or the order of declaration, gives the signals of the text
+-- a file has the bytes of the image of a text over the columns of its signals, by a header line or in order of declaration
 pub record IsFileUnder (simplify : Bool) (text : List ℕ) (header : Option (List ℕ)) (file : List ℕ) : Type 0 where
   pub columns : Columns
   pub found : columns_by (signals_in text) header ≡ Ok columns
   pub is_image : IsFileBy simplify text columns file
 
--- the header of a compilation: the first line of the header file, where one is named
+-- the header of a compilation: the first line of the header file, if one is named
 abbrev pub asked_header : Option (List ℕ) → List (List ℕ) → Option (List ℕ)
 asked_header None lines = None
 asked_header (Some name) lines = Some (first_line lines)
 
--- what is written of a text in this form, its table aside, is such a file
+-- the output for a text in this form, unless it is a table, is the file of its image
 abbrev pub WritesImage : Form → List ℕ → Option (List ℕ) → List ℕ → Type 0
 WritesImage form text header file = form.table ≡ false → IsFileUnder form.simplify text header file
 
--- so are the bytes that are made by a compilation; those of an upgrade are of version 2; of a text nothing is said here
+-- the bytes that a compilation writes are the file of an image, the bytes of an upgrade are of version 2, and the bytes of a
+-- text are any
 abbrev pub GivesFile : Product → Option (List ℕ) → List ℕ → List (List ℕ) → List ℕ → Type 0
 GivesFile (Compiled form) header file lines bytes = WritesImage form file (asked_header header lines) bytes
 GivesFile Upgrade header file lines bytes = IsUpgraded file bytes

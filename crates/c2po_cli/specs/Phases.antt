@@ -1,4 +1,4 @@
--- What each phase of a run logs.
+-- The log of each phase of a run.
 
 use Rattle.std.specs.Prelude.{◌≡◌, ℕ, ◌⊎◌, Bool, true, false, Option, Some, None, is_some, Result, Ok, Err, IfOk, List}
 use Rattle.std.specs.Prelude.{[], ◌∷◌, Vec, ⊤}
@@ -23,7 +23,7 @@ use Rattle.c2po_cli.specs.Upgrading.{IsUpgraded}
 use Rattle.obs_binary.specs.Faults.{opened}
 use Rattle.c2po_cli.specs.Run.{seen, is_tried, HasFaultlessText, MakesFile, MakeOutcome, WritesAttached}
 
--- a status by which a file, a header or a limit refuses, that of a text that is to be written too, or out of memory
+-- the status refuses a file, a header, a limit, or a text that is to be written, or is out of memory
 abbrev pub IsRefusal : status.Status → Type 0
 IsRefusal (status.TheVariants.Refused line refusal) = ⊤
 IsRefusal (status.TheVariants.BadProgram fault) = ⊤
@@ -32,13 +32,12 @@ IsRefusal (status.TheVariants.TextTooLong place.TheVariants.Out) = ⊤
 IsRefusal status.TheVariants.Memory = ⊤
 IsRefusal answer = ⊥
 
--- one by which no header does
+-- the status is a refusal, and isn't by a header
 abbrev pub RefusesAlone : status.Status → Type 0
 RefusesAlone (status.TheVariants.BadHeader why) = ⊥
 RefusesAlone answer = IsRefusal answer
 
--- reads of an attached header file returned its first line, or reached its end before one, or there is no end of that
--- line
+-- reads of an attached header file returned its first line, or reached its end before one, or the line has no end
 pub record ReadsLine (form : Form) (text : List ℕ) (found : Result (List ℕ) status.Status)
     (log : List Event) : Type 0 where
   pub bytes : List ℕ
@@ -48,19 +47,19 @@ pub record ReadsLine (form : Form) (text : List ℕ) (found : Result (List ℕ) 
   pub makes : (name : List ℕ) → made_of_text form (Some name) text (lines_of ended bytes) ≡ found
   pub image : IfOk found (WritesImage form text (Some (first_line (lines_of ended bytes))))
 
--- reads that gave nothing
+-- reads of the header file returned no bytes of a product
 pub record ReadsNone (log : List Event) : Type 0 where
   pub bytes : List ℕ
   pub ended : Bool
   pub takes : Draws place.TheVariants.Header bytes ended log
 
--- reads that met no end, and gave no line yet
+-- reads met no end, and returned no line yet
 pub record ReadsNoLine (log : List Event) : Type 0 where
   pub bytes : List ℕ
   pub takes : Draws place.TheVariants.Header bytes false log
   pub no_line : lines_of false bytes ≡ []
 
--- the log under the first line of an attached header file, by a text that isn't refused
+-- the log of reading the first line of an attached header file, after a text that isn't refused
 abbrev pub LineLog : Result (Vec ℕ Global) status.Status → Form → List ℕ → List Event → Type 0
 LineLog (Ok bytes) form text log = ReadsLine form text (Ok bytes.items) log
 LineLog (Err (status.TheVariants.ReadFault place.TheVariants.Header)) form text log = ReadsNoLine log
@@ -69,49 +68,49 @@ LineLog (Err (status.TheVariants.TextTooLong place.TheVariants.Header)) form tex
     ReadsLine form text (Err (status.TheVariants.TextTooLong place.TheVariants.Header)) log
 LineLog (Err answer) form text log = IsRefusal answer × ReadsLine form text (Err answer) log
 
--- the same where the header file is to be attached
+-- the log of attaching the header file and reading its first line
 abbrev pub HeaderLog : Result (Vec ℕ Global) status.Status → Form → List ℕ → List ℕ → List Event → Type 0
 HeaderLog (Err (status.TheVariants.OpenFault place.TheVariants.Header)) form name text events =
     (events ≡ Missed place.TheVariants.Header name ∷ []) ⊎ (events ≡ [])
 HeaderLog result form name text events =
     (log : List Event) × (events ≡ Attached place.TheVariants.Header name ∷ log) × LineLog result form text log
 
--- nothing was called, and this refuses what was there
+-- nothing was called, and the inputs are refused by this status
 abbrev pub RefusedLog : Result (Vec ℕ Global) status.Status → Result (List ℕ) status.Status → List Event → Type 0
 RefusedLog (Ok bytes) found events = ⊥
 RefusedLog (Err status.TheVariants.Memory) found events = events ≡ []
 RefusedLog (Err answer) found events = (events ≡ []) × RefusesAlone answer × (found ≡ Err answer)
 
--- nothing was called, and this was made of what was there
+-- nothing was called, and these bytes were made of the inputs
 abbrev pub MadeLog : Result (Vec ℕ Global) status.Status → Result (List ℕ) status.Status → List Event → Type 0
 MadeLog (Ok bytes) found events = (events ≡ []) × (found ≡ Ok bytes.items)
 MadeLog result found events = RefusedLog result found events
 
--- after a specification without a fault
+-- the log after a specification without a fault
 abbrev pub SpecLog : Result (Vec ℕ Global) status.Status → Form → Option (List ℕ) → List ℕ → List Event → Type 0
 SpecLog result form None text events =
     MadeLog result (made_of_text form None text []) events
     × IfOk result (λ bytes. WritesImage form text None bytes.items)
 SpecLog result form (Some name) text events = HeaderLog result form name text events
 
--- after the text of a specification: it is refused, or it has no fault
+-- the log after the text of a specification: the text is refused, or it has no fault
 abbrev pub TextLog : Result (Vec ℕ Global) status.Status → Form → Option (List ℕ) → List ℕ → List Event → Type 0
 TextLog result form header text events =
     RefusedLog result (made_of_text form header text []) events
     ⊎ ((first_refusal text ≡ None) × SpecLog result form header text events)
 
--- after the bytes of a file
+-- the log after the bytes of a file
 abbrev pub FileMadeLog : Product → Result (Vec ℕ Global) status.Status → Option (List ℕ) → List ℕ → List Event → Type 0
 FileMadeLog (Compiled form) result header file events = TextLog result form header file events
 FileMadeLog Upgrade result header file events =
     MadeLog result (opened_as made_bytes (opened file)) events × IfOk result (λ bytes. IsUpgraded file bytes.items)
 FileMadeLog Show result header file events = MadeLog result (opened_as text_within (opened file)) events
 
--- after the bytes of the file that the arguments name
+-- the log after the bytes of the file that the arguments name
 abbrev pub AfterLog : Result (Vec ℕ Global) status.Status → MakeAsked → List ℕ → List Event → Type 0
 AfterLog result asked file events = FileMadeLog asked.product result asked.header file events
 
--- all was read, and gave these bytes
+-- all inputs were read, and these bytes were made of them
 pub record Gathered (asked : MakeAsked) (bytes : List ℕ) (events : List Event) : Type 0 where
   pub names : names_of events ≡ read_names asked
   pub reads : ReadsAttached [] events
@@ -120,7 +119,7 @@ pub record Gathered (asked : MakeAsked) (bytes : List ℕ) (events : List Event)
   pub makes : MakesFile asked (seen asked events) (Ok bytes)
   pub tries : is_tried place.TheVariants.Header (names_of events) ≡ true → HasFaultlessText asked (seen asked events)
 
--- something failed or was refused
+-- a call failed, or an input was refused
 pub record NotGathered (asked : MakeAsked) (answer : status.Status) (events : List Event) : Type 0 where
   pub names : IsFront (names_of events) (read_names asked)
   pub reads : ReadsAttached [] events
@@ -130,7 +129,7 @@ pub record NotGathered (asked : MakeAsked) (answer : status.Status) (events : Li
   pub tries : is_tried place.TheVariants.Header (names_of events) ≡ true → HasFaultlessText asked (seen asked events)
   pub opened : OpensAsTold answer events
 
--- the log up to the bytes that are to be written, or to what failed or was refused
+-- the log up to the bytes that are to be written, or to the failure or refusal
 abbrev pub GatherLog : Result (Vec ℕ Global) status.Status → MakeAsked → List Event → Type 0
 GatherLog (Ok bytes) asked events = Gathered asked bytes.items events
 GatherLog (Err answer) asked events = NotGathered asked answer events
@@ -142,7 +141,7 @@ GivenLog (status.TheVariants.WriteFault place.TheVariants.Out) bytes events =
     WritesFront place.TheVariants.Out bytes events
 GivenLog answer bytes events = ⊥
 
--- how bytes are written, into a file where one is named
+-- the output of bytes that are written, into a file if one is named
 abbrev pub PutOutcome : status.Status → Option (List ℕ) → List ℕ → List ℕ → Bool → Type 0
 PutOutcome status.TheVariants.Done out bytes sent attached = (sent ≡ bytes) × (attached ≡ is_some out)
 PutOutcome (status.TheVariants.WriteFault place.TheVariants.Out) out bytes sent attached =
@@ -151,7 +150,7 @@ PutOutcome (status.TheVariants.OpenFault place.TheVariants.Out) out bytes sent a
     (is_some out ≡ true) × (sent ≡ []) × (attached ≡ false)
 PutOutcome answer out bytes sent attached = ⊥
 
--- the log of writing bytes, into a file where one is named
+-- the log of writing bytes, into a file if one is named
 pub record PutLog (answer : status.Status) (out : Option (List ℕ)) (bytes : List ℕ) (events : List Event) : Type 0 where
   pub names : IsFront (names_of events) (place_named place.TheVariants.Out out)
   pub reads : ReadsAttached [] events

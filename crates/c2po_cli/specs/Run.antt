@@ -1,4 +1,4 @@
--- What a whole run of c2po logs: from its arguments to its message.
+-- The log of a whole run of c2po, from its arguments to its message.
 
 use Rattle.std.specs.Prelude.{◌≡◌, ℕ, ◌<◌, ◌≤◌, ◌⊎◌, Bool, true, false, None, is_some, Result, Ok, Err, IfOk, List, []}
 use Rattle.std.specs.Prelude.{◌∷◌, ◌++◌, length, ⊤}
@@ -19,9 +19,9 @@ use Rattle.c2po_cli.specs.Asking.{Ask, help, make, nothing, MakeAsked, file_kind
 use Rattle.c2po_cli.specs.Made.{made}
 use Rattle.c2po_cli.specs.Images.{GivesFile}
 
--- What a log says of a run that makes something: the places that were tried with their names, the bytes of the file and
--- whether its end was met, the lines of the header file that were read and whether its end was met, what is out, and
--- whether Out was attached.
+-- The parts of a log of a run that makes a product: the places that were tried with their names, the bytes of the file and
+-- whether its end was met, the lines of the header file that were read and whether its end was met, the bytes that are out,
+-- and whether Out was attached.
 pub record Seen : Type 0 where
   pub names : List (place.Place × List ℕ)
   pub file : List ℕ
@@ -35,7 +35,7 @@ pub record Seen : Type 0 where
 abbrev pub input_place : MakeAsked → place.Place
 input_place asked = file_place (file_kind asked.product)
 
--- what a log says of such a run
+-- the parts of the log of such a run
 abbrev pub seen : MakeAsked → List Event → Seen
 seen asked events = record {
   names = names_of events;
@@ -51,11 +51,11 @@ seen asked events = record {
 abbrev pub file_in : MakeAsked → List Event → List ℕ
 file_in asked events = taken (input_place asked) events
 
--- what the bytes that were taken give, with the header's lines
+-- the bytes that are made of the bytes that were taken, with the header's lines
 abbrev pub made_in : MakeAsked → List Event → Result (List ℕ) status.Status
 made_in asked events = made asked (file_in asked events) (seen asked events).header
 
--- whether a place was tried
+-- a place was tried
 abbrev pub is_tried : place.Place → List (place.Place × List ℕ) → Bool
 is_tried p names = list_any (λ named. same_place p named.0) names
 
@@ -64,37 +64,37 @@ pub record IsReadWhole (asked : MakeAsked) (run : Seen) : Type 0 where
   pub ended : run.whole ≡ true
   pub within : length run.file ≤ file_limit (file_kind asked.product)
 
--- so was a specification, and it has no fault
+-- a specification was read to its end, within its limit, and has no fault
 pub record HasFaultlessText (asked : MakeAsked) (run : Seen) : Type 0 where
   pub whole : IsReadWhole asked run
   pub faultless : first_refusal run.file ≡ None
 
--- what was read gives these bytes, or this refusal; the bytes of a compilation are those of an image, and those of an
--- upgrade are of version 2
+-- these bytes, or this refusal, follow from the bytes that were read; the bytes of a compilation are the bytes of an image,
+-- and the bytes of an upgrade are of version 2
 pub record MakesFile (asked : MakeAsked) (run : Seen) (found : Result (List ℕ) status.Status) : Type 0 where
   pub whole : IsReadWhole asked run
   pub is : made asked run.file run.header ≡ found
   pub gives : IfOk found (GivesFile asked.product asked.header run.file run.header)
 
--- a result of a run that has tried Out: all was written, or its open or a write failed
+-- the result is of a run that has tried Out: all was written, or its open or a write failed
 abbrev pub IsOfOut : status.Status → Type 0
 IsOfOut status.TheVariants.Done = ⊤
 IsOfOut (status.TheVariants.OpenFault place.TheVariants.Out) = ⊤
 IsOfOut (status.TheVariants.WriteFault place.TheVariants.Out) = ⊤
 IsOfOut answer = ⊥
 
--- the header is tried only after a specification without a fault, and Out only where the bytes exist, and then last
+-- the header is tried only after a specification without a fault, and Out only if the bytes exist, and then last
 pub record TriesInTurn (asked : MakeAsked) (answer : status.Status) (run : Seen) : Type 0 where
   pub header : is_tried place.TheVariants.Header run.names ≡ true → HasFaultlessText asked run
   pub out : is_tried place.TheVariants.Out run.names ≡ true → (bytes : List ℕ) × MakesFile asked run (Ok bytes)
   pub out_last : is_tried place.TheVariants.Out run.names ≡ true → IsOfOut answer
 
--- all bytes are out; Out was attached exactly where a file is named
+-- all bytes are out, and Out was attached if and only if a file is named
 pub record IsWritten (asked : MakeAsked) (run : Seen) : Type 0 where
   pub bytes : MakesFile asked run (Ok run.out)
   pub attached : run.attached ≡ is_some asked.out
 
--- a proper prefix of the bytes is out; Out was attached exactly where a file is named
+-- a proper prefix of the bytes is out, and Out was attached if and only if a file is named
 pub record IsPartlyWritten (asked : MakeAsked) (run : Seen) : Type 0 where
   pub whole : List ℕ
   pub bytes : MakesFile asked run (Ok whole)
@@ -108,19 +108,19 @@ pub record IsUnwritten (asked : MakeAsked) (run : Seen) : Type 0 where
   pub named : is_some asked.out ≡ true
   pub none_out : run.out ≡ []
 
--- the header was asked for, after a specification without a fault, and nothing is out
+-- the arguments name a header, the specification has no fault, and nothing is out
 pub record IsUnheaded (asked : MakeAsked) (run : Seen) : Type 0 where
   pub named : is_some asked.header ≡ true
   pub spec : HasFaultlessText asked run
   pub none_out : run.out ≡ []
 
--- so it was, and couldn't be read on: its end wasn't met, and its first line isn't there
+-- the header couldn't be read on: its end wasn't met, and its first line isn't there
 pub record IsHeaderUnread (asked : MakeAsked) (run : Seen) : Type 0 where
   pub unheaded : IsUnheaded asked run
   pub not_ended : run.header_ended ≡ false
   pub no_line : run.header ≡ []
 
--- what was read is refused so, and nothing is out
+-- the inputs are refused by this status, and nothing is out
 pub record IsRefused (answer : status.Status) (asked : MakeAsked) (run : Seen) : Type 0 where
   pub refused : MakesFile asked run (Err answer)
   pub none_out : run.out ≡ []
@@ -130,7 +130,7 @@ pub record IsHeaded (run : Seen) : Type 0 where
   pub tried : is_tried place.TheVariants.Header run.names ≡ true
   pub begun : HasBegun run.header_ended run.header
 
--- how each result follows from what was read and what is out
+-- each result follows from the bytes that were read and the output
 abbrev pub MakeOutcome : status.Status → MakeAsked → Seen → Type 0
 MakeOutcome status.TheVariants.Done asked run = IsWritten asked run
 MakeOutcome (status.TheVariants.WriteFault place.TheVariants.Out) asked run = IsPartlyWritten asked run
@@ -163,20 +163,20 @@ HelpOutcome (status.TheVariants.WriteFault place.TheVariants.Out) out = IsProper
 HelpOutcome status.TheVariants.Memory out = out ≡ []
 HelpOutcome answer out = ⊥
 
--- invalid arguments
+-- nothing is out after invalid arguments
 abbrev pub NothingOutcome : status.Status → List ℕ → Type 0
 NothingOutcome status.TheVariants.Usage out = out ≡ []
 NothingOutcome status.TheVariants.Memory out = out ≡ []
 NothingOutcome answer out = ⊥
 
--- how each result follows from the arguments and from the log
+-- each result follows from the arguments and from the log
 abbrev pub OutcomeOf : status.Status → Ask → List Event → Type 0
 OutcomeOf answer help events = HelpOutcome answer (given place.TheVariants.Out events)
 OutcomeOf answer (make asked) events = MakeOutcome answer asked (seen asked events)
 OutcomeOf answer nothing events = NothingOutcome answer (given place.TheVariants.Out events)
 
--- what is written of a specification without `--table` is its image, in simplified form where the arguments say so; and
--- of a program that is upgraded, the program in version 2
+-- the output for a specification without `--table` is its image, in simplified form if the arguments request it; the output
+-- for a program that is upgraded is the program in version 2
 abbrev pub CompilesImage : Ask → status.Status → List Event → Type 0
 CompilesImage (make asked) answer events =
     answer ≡ status.TheVariants.Done
@@ -184,12 +184,12 @@ CompilesImage (make asked) answer events =
     (given place.TheVariants.Out events)
 CompilesImage other answer events = ⊤
 
--- the places of what is made are tried in turn
+-- the places of a product are tried in turn
 abbrev pub TriesOf : Ask → status.Status → List Event → Type 0
 TriesOf (make asked) answer events = TriesInTurn asked answer (seen asked events)
 TriesOf other answer events = ⊤
 
--- whether the arguments name a file that is written
+-- the arguments name a file that is written
 abbrev pub names_out : Ask → Bool
 names_out (make asked) = is_some asked.out
 names_out other = false
@@ -211,8 +211,8 @@ pub record Ran (asked : Ask) (answer : status.Status) (events : List Event) : Ty
   pub opened : OpensAsTold answer events
   pub quiet : is_used place.TheVariants.Err events ≡ false
 
--- A file without a fault and a header that names its signals, within the limits, give Done, unless out of memory;
--- and help is given where it is asked for.
+-- A run ends with Done, unless out of memory, if the file has no fault, and its header, if any, names its signals, within
+-- the limits; help is printed on request.
 abbrev pub CompletesBy : Ask → status.Status → List Event → Type 0
 CompletesBy (make asked) answer events =
     (bytes : List ℕ) → length (file_in asked events) ≤ file_limit (file_kind asked.product)
@@ -221,8 +221,7 @@ CompletesBy (make asked) answer events =
 CompletesBy help answer events = (answer ≡ status.TheVariants.Helped) ⊎ (answer ≡ status.TheVariants.Memory)
 CompletesBy nothing answer events = ⊤
 
--- The log of a whole run: the message is out, or a prefix of it, and the run completes where no call failed but those
--- at Err.
+-- The log of a whole run: the message is out, or a prefix of it, and the run completes if no call failed but calls at Err.
 pub record IsMade (asked : Ask) (answer : status.Status) (before now : place.Place → ℕ)
     (events : List Event) : Type 0 where
   pub names : IsFront (names_of events) (asked_names asked)

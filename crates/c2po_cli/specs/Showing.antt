@@ -1,4 +1,4 @@
--- What is written where a program is shown as text, and how an image returns from it.
+-- The text of a program that is shown, from which its image returns.
 
 use Rattle.std.specs.Prelude.{◌≡◌, ℕ, None, Ok, List, ⊤}
 use Rattle.mltl_base.specs.declared.program.Columns.{Columns}
@@ -19,13 +19,13 @@ use Rattle.c2po_cli.specs.declared.make.Product.TheVariants.{Show}
 use Rattle.c2po_cli.specs.Asking.{Ask, make}
 use Rattle.c2po_cli.specs.Run.{file_in}
 
--- what is written is a specification without a fault, and its image over the columns that a program stores has the
+-- the text that is written is a specification without a fault, and its image over the columns that a program stores has the
 -- bytes of the program's file
 pub record Returns (program : Program) (file written : List ℕ) : Type 0 where
   pub faultless : first_refusal written ≡ None
   pub image : spelling (compile_over written (stored_columns program)) ≡ file
 
--- What is written of a file is the text of its program in version 2. Where the file is the image of a specification,
+-- The text that is written for a file is the text of its program in version 2. If the file is the image of a specification,
 -- plain or in simplified form, the text compiles to the image again.
 pub record IsShown (file written : List ℕ) : Type 0 where
   pub program : Program
@@ -35,12 +35,12 @@ pub record IsShown (file written : List ℕ) : Type 0 where
   pub simplify_over : (source : List ℕ) (columns : Columns) → IsSimpleImageFile source columns file
       → Returns program file written
 
--- what is written of a file that is shown; of others nothing is said here
+-- the output for a file that is shown is the text of its program; the output for another product is any
 abbrev pub ShowsFile : Product → List ℕ → List ℕ → Type 0
 ShowsFile Show file written = IsShown file written
 ShowsFile product file written = ⊤
 
--- what a run shows of its file, where it is done
+-- the run, if it is done, shows the program of its file
 abbrev pub ShowsProgram : Ask → Status → List Event → Type 0
 ShowsProgram (make asked) answer events =
     answer ≡ Done → ShowsFile asked.product (file_in asked events) (given Out events)

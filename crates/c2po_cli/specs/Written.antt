@@ -1,4 +1,4 @@
--- What a run writes with `--upgrade`, and with `--simplify`.
+-- The output of a run with `--upgrade`, and with `--simplify`.
 
 use Rattle.std.specs.Prelude.{◌≡◌, ◌≤◌, ℕ, Bool, true, Option, Ok, List, ⊤}
 use Rattle.mltl_base.specs.declared.program.Program.{Program}
@@ -22,8 +22,8 @@ UpgradesProgram (make asked) answer events =
     asked.product ≡ Upgrade → answer ≡ Done → IsUpgraded (file_in asked events) (given Out events)
 UpgradesProgram other answer events = ⊤
 
--- What is written is the program of a text and a header line in simplified form, or its table. It has no more slots and
--- boxes than the program in plain form.
+-- The output is the program of a text and a header line in simplified form, or its table. It has no more slots and boxes
+-- than the program in plain form.
 pub record IsNoLarger (tabled : Bool) (text : List ℕ) (header : Option (List ℕ)) (written : List ℕ) : Type 0 where
   pub simple : Program
   pub plain : Program
@@ -32,7 +32,7 @@ pub record IsNoLarger (tabled : Bool) (text : List ℕ) (header : Option (List �
   pub bytes : written ≡ written_as tabled simple
   pub slots : slots_in simple ≤ slots_in plain
 
--- so does a compilation with `--simplify` that is done
+-- a compilation with `--simplify` that is done writes a program that has no more slots and boxes than in plain form
 abbrev pub NeedsNoMore : Ask → Status → List Event → Type 0
 NeedsNoMore (make asked) answer events =
     (form : Form) → asked.product ≡ Compiled form → form.simplify ≡ true → answer ≡ Done

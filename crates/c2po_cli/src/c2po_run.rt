@@ -19,7 +19,7 @@ use std::alloc::Global;
 use tool_io::Host;
 use tool_words::{C2poAsk, Status, Tool, Words, c2po_ask, give_help, tell_user};
 
-/// Makes what was asked for, and writes it.
+/// Makes the output of the request, and writes it.
 fn make<H: Host>(alloc: Global, asked: &Make<'_>, host: &mut H) -> Status
     requires header { kind_of asked.now.product ≡ Program → asked.now.header ≡ None }
     ensures cause { RunCause result (H.faults host.old) (H.faults host.new) }
@@ -32,7 +32,7 @@ fn make<H: Host>(alloc: Global, asked: &Make<'_>, host: &mut H) -> Status
     }
 }
 
-/// Does what was asked for.
+/// Runs the request of the arguments.
 fn run_asked<H: Host>(alloc: Global, asked: C2poAsk<'_>, host: &mut H) -> Status
     ensures cause { RunCause result (H.faults host.old) (H.faults host.new) }
     ensures log { OnLog (H.log host.old) (H.log host.new)
@@ -47,7 +47,7 @@ fn run_asked<H: Host>(alloc: Global, asked: C2poAsk<'_>, host: &mut H) -> Status
     }
 }
 
-/// Does what the arguments request.
+/// Reads the arguments, and runs their request.
 fn run<H: Host>(alloc: Global, words: &Words, host: &mut H) -> Status
     ensures usage { result ≢ Status.Memory → (result ≡ Status.Usage) ↔ (ask words.now ≡ nothing) }
     ensures helped { result ≡ Status.Helped → ask words.now ≡ help }
@@ -60,13 +60,14 @@ fn run<H: Host>(alloc: Global, words: &Words, host: &mut H) -> Status
     }
 }
 
-/// Runs c2po: does what the arguments request, and prints on `Err` what went wrong.
+/// Runs c2po: runs the request of the arguments, and prints on `Err` the message of a failure.
 ///
-/// It writes the image of a specification or its instruction table, possibly in simplified form; a program in version
-/// 2, or its text; or it prints help. The output is attached, and written, only once all bytes are there; so an older
-/// file is left unchanged where something is refused. The text of an image is a specification without a fault, whose
-/// image over the stored columns is the file. A program in version 2 has the formulas of the old one, and one in
-/// simplified form needs no more slots and boxes than in plain form.
+/// It writes the image of a specification or its instruction table, possibly in simplified form; a
+/// program in version 2, or its text; or it prints help. The output is attached, and written, only
+/// when all bytes are there; so an older file is left unchanged if something is refused. The text
+/// of an image is a specification without a fault, whose image over the stored columns is the file.
+/// A program in version 2 has the formulas of the old one, and a program in simplified form needs
+/// no more slots and boxes than in plain form.
 pub fn c2po_main<H: Host>(alloc: Global, words: &Words, host: &mut H) -> Status
     ensures usage { result ≢ Status.Memory → (result ≡ Status.Usage) ↔ (ask words.now ≡ nothing) }
     ensures helped { result ≡ Status.Helped → ask words.now ≡ help }

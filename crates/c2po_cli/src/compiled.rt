@@ -1,4 +1,4 @@
-//! From a specification to the bytes that are written.
+//! The bytes that are written for a specification.
 
 ghost use Rattle.std.specs.Prelude.{◌≡◌, ◌≢◌, ◌<◌, Err, IfErr, IfOk, List as Seq, None, Ok, OnOk, false, ℕ, length};
 ghost use Rattle.std.specs.Option.{ForSome, option_copied};
@@ -26,7 +26,7 @@ use obs_verify::Checked;
 use std::alloc::Global;
 use tool_words::Status;
 
-/// The table of a program, or its bytes.
+/// Returns the table of a program, or its bytes.
 pub(crate) fn written(alloc: Global, table: bool, checked: &Checked) -> Result<Vec<u8>, Status>
     requires names { NamesFit checked.now }
     ensures bytes { IfOk result (λ bytes. bytes.items ≡ written_as table checked.now) }
@@ -41,7 +41,7 @@ pub(crate) fn written(alloc: Global, table: bool, checked: &Checked) -> Result<V
     Ok(made?)
 }
 
-/// The program of a specification over columns, maybe in simplified form.
+/// Makes the program of a specification over columns, plain or in simplified form.
 fn program_of(
     alloc: Global,
     spec: &TypedSpec,
@@ -64,8 +64,8 @@ fn program_of(
     }
 }
 
-/// Makes what is written of a specification whose signals are in the columns of a header line, or in order of
-/// declaration.
+/// Returns the bytes that are written for a specification whose signals are in the columns of a
+/// header line, or in order of declaration.
 #[tactic(auto, using(crate::proofs::MakingLaws::compile_refuses))]
 pub(crate) fn compiled_bytes(
     alloc: Global,

@@ -15,7 +15,8 @@ use std::alloc::Global;
 use tool_io::{Attached, Host, Line, LineCut, Place};
 use tool_words::Status;
 
-/// What is written of a specification under the first line of a header file, which is attached before.
+/// Returns the bytes that are written for a specification under the first line of a header file,
+/// after attaching the file.
 pub(crate) fn under_header<H: Host>(
     alloc: Global,
     spec: &TypedSpec,
@@ -33,7 +34,8 @@ pub(crate) fn under_header<H: Host>(
     under_first_line(alloc, spec, form, host)
 }
 
-/// The same where the header file is attached.
+/// Returns the bytes that are written for a specification under the first line of an attached
+/// header file.
 fn under_first_line<H: Host>(
     alloc: Global,
     spec: &TypedSpec,

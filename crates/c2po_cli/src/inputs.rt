@@ -1,4 +1,4 @@
-//! What a run reads, and the bytes that it makes of it.
+//! The inputs of a run, and the bytes that it makes of them.
 
 ghost use Rattle.std.specs.Prelude.{◌≡◌, ◌≤◌, List as Seq, None, ℕ, length, option_map};
 ghost use Rattle.mltl_base.specs.declared.limits.TheConstants.{MAX_SPEC_BYTES};
@@ -21,7 +21,8 @@ use std::alloc::Global;
 use tool_io::Host;
 use tool_words::{Status, read_file};
 
-/// The bytes that are written of a specification without a fault, under a header file where one is named.
+/// Returns the bytes that are written for a specification without a fault, under a header file if
+/// one is named.
 fn of_spec<H: Host>(
     alloc: Global,
     spec: &TypedSpec,
@@ -40,7 +41,7 @@ fn of_spec<H: Host>(
     }
 }
 
-/// The bytes that are written of the text of a specification.
+/// Returns the bytes that are written for the text of a specification.
 fn of_text<H: Host>(
     alloc: Global,
     text: &[u8],
@@ -57,7 +58,7 @@ fn of_text<H: Host>(
     of_spec(alloc, &spec, header, form, host)
 }
 
-/// The bytes that are written of the bytes of a file.
+/// Returns the bytes that are written for the bytes of a file.
 fn of_file<H: Host>(
     alloc: Global,
     asked: &Make<'_>,
@@ -76,7 +77,7 @@ fn of_file<H: Host>(
     }
 }
 
-/// Reads the file, and the header where one is named, and makes the bytes that are to be written.
+/// Reads the file, and the header if one is named, and makes the bytes that are written.
 pub(crate) fn gather<H: Host>(
     alloc: Global,
     asked: &Make<'_>,

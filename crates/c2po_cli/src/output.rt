@@ -1,4 +1,4 @@
-//! Writing what was made.
+//! Writing the product.
 
 ghost use Rattle.std.specs.Prelude.{Some, option_map};
 ghost use Rattle.tool_io.specs.Log.{OnLog};
@@ -19,7 +19,7 @@ fn give<H: Host>(bytes: &[u8], host: &mut H) -> Status
     }
 }
 
-/// Writes the bytes into the file of this name, which is attached before.
+/// Attaches the file of this name, and writes the bytes into it.
 fn give_to<H: Host>(name: &str, bytes: &[u8], host: &mut H) -> Status
     ensures cause { RunCause result (H.faults host.old) (H.faults host.new) }
     ensures log { OnLog (H.log host.old) (H.log host.new)

@@ -1,4 +1,4 @@
-//! From the bytes of a program file to what is written of its program in version 2: the bytes, or the text.
+//! The output for a program file: its program in version 2, as bytes or as text.
 
 ghost use Rattle.std.specs.Prelude.{◌≡◌, ◌≢◌, Err, IfErr, IfOk, None, Ok, OnOk};
 ghost use Rattle.obs_binary.specs.Faults.{opened};
@@ -18,7 +18,7 @@ use std::alloc::Global;
 use tool_io::Place;
 use tool_words::Status;
 
-/// A program in version 2.
+/// Raises a program to version 2.
 fn raised(alloc: Global, checked: Checked) -> Result<Checked, Status>
     requires names { NamesFit checked }
     ensures made { IfOk result (λ raised. (gives : Making)
@@ -42,7 +42,7 @@ fn raised(alloc: Global, checked: Checked) -> Result<Checked, Status>
     }
 }
 
-/// The program of a file, in version 2.
+/// Opens the program of a file, and raises it to version 2.
 #[tactic(auto, using(crate::proofs::UpgradedFiles::raised_from))]
 fn program_in(alloc: Global, bytes: &[u8]) -> Result<Checked, Status>
     ensures made { IfOk result (λ checked. (gives : Making)
@@ -58,7 +58,7 @@ fn program_in(alloc: Global, bytes: &[u8]) -> Result<Checked, Status>
     raised(alloc, checked)
 }
 
-/// The bytes of the program of a file, in version 2.
+/// Returns the bytes of the program of a file, in version 2.
 pub(crate) fn upgraded_bytes(alloc: Global, bytes: &[u8]) -> Result<Vec<u8>, Status>
     ensures made { IfOk result (λ made. opened_as made_bytes (opened bytes.now) ≡ Ok made.items) }
     ensures upgraded { IfOk result (λ made. IsUpgraded bytes.now made.items) }
@@ -70,7 +70,7 @@ pub(crate) fn upgraded_bytes(alloc: Global, bytes: &[u8]) -> Result<Vec<u8>, Sta
     written(alloc, false, &checked)
 }
 
-/// The text of the program of a file, in version 2.
+/// Returns the text of the program of a file, in version 2.
 pub(crate) fn shown_text(alloc: Global, bytes: &[u8]) -> Result<Vec<u8>, Status>
     ensures made { IfOk result (λ made. opened_as text_within (opened bytes.now) ≡ Ok made.items) }
     ensures refused { IfErr result (λ status. status ≢ Status.Memory
@@ -81,7 +81,7 @@ pub(crate) fn shown_text(alloc: Global, bytes: &[u8]) -> Result<Vec<u8>, Status>
     text_of(alloc, &checked)
 }
 
-/// The text of a program.
+/// Returns the text of a program.
 fn text_of(alloc: Global, checked: &Checked) -> Result<Vec<u8>, Status>
     requires version { checked.now.version ≡ 2 }
     ensures made { IfOk result (λ made. text_within checked.now ≡ Ok made.items) }
