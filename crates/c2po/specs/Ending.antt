@@ -1,4 +1,4 @@
--- How the compiler ends.
+-- The ending of the compiler.
 
 use Rattle.std.specs.Prelude.{ℕ, Option, Result, List}
 use Rattle.std.specs.declared.alloc.AllocError.{AllocError}
@@ -8,7 +8,7 @@ use Rattle.mltl_tools.specs.C2poAsking.{ask}
 use Rattle.mltl_tools.specs.C2poRun.{IsMade}
 use Rattle.mltl_tools.specs.Ending.{EndsBy}
 
--- the compiler ends by a run with its arguments, which the log shows, where the host has one; or at once
+-- the compiler ends by a run with its arguments, which is in the log if the host has one, or at once
 abbrev pub CompilerEnds : Result (List (List ℕ)) AllocError → ℕ → (Place → ℕ) → (Place → ℕ) → Option (List Event)
     → Option (List Event) → Type 0
 CompilerEnds words code faults now before after =

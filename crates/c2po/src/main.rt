@@ -1,4 +1,4 @@
-//! The compiler `c2po`: from a specification to an observer program for `r2u2`.
+//! The compiler `c2po`: it makes an observer program for `r2u2` of a specification.
 #![tactic(auto)]
 
 ghost use Rattle.std.specs.Process.{exit_status};
@@ -9,7 +9,8 @@ use std::alloc::{AllocError, Global};
 use std::process::ExitCode;
 use tool_io::{Host, RealHost};
 
-/// Runs the command line of these arguments, unless out of memory for them. Returns how the program ends.
+/// Runs the command line of these arguments, or ends out of memory if there are none. Returns the
+/// exit code.
 fn run<H: Host>(alloc: Global, words: Result<Words, AllocError>, host: &mut H) -> ExitCode
     ensures { CompilerEnds words (exit_status result)
         (H.faults host.old) (H.faults host.new) (H.log host.old) (H.log host.new) }
