@@ -1,4 +1,4 @@
--- How the monitor ends.
+-- The ending of the monitor.
 
 use Rattle.std.specs.Prelude.{ℕ, Option, Result, List}
 use Rattle.std.specs.declared.alloc.AllocError.{AllocError}
@@ -9,7 +9,7 @@ use Rattle.mltl_tools.specs.State.{State}
 use Rattle.mltl_tools.specs.R2u2Run.{IsRun}
 use Rattle.mltl_tools.specs.Ending.{EndsBy}
 
--- the monitor ends by a run with its arguments, which the log shows, where the host has one; or at once
+-- the monitor ends by a run with its arguments, which is in the log if the host has one, or at once
 abbrev pub MonitorEnds : Result (List (List ℕ)) AllocError → ℕ → (Place → ℕ) → (Place → ℕ) → Option (List Event)
     → Option (List Event) → Type 0
 MonitorEnds words code faults now before after =

@@ -1,4 +1,5 @@
-//! The monitor `r2u2`: verdicts of requirements on a running system, as its trace comes in.
+//! The monitor `r2u2`: it reports verdicts of requirements on a running system, as its trace comes
+//! in.
 #![tactic(auto)]
 
 ghost use Rattle.std.specs.Process.{exit_status};
@@ -9,7 +10,8 @@ use std::alloc::{AllocError, Global};
 use std::process::ExitCode;
 use tool_io::{Host, RealHost};
 
-/// Runs the command line of these arguments, unless out of memory for them. Returns how the program ends.
+/// Runs the command line of these arguments, or ends out of memory if there are none. Returns the
+/// exit code.
 fn run<H: Host>(alloc: Global, words: Result<Words, AllocError>, host: &mut H) -> ExitCode
     ensures { MonitorEnds words (exit_status result)
         (H.faults host.old) (H.faults host.new) (H.log host.old) (H.log host.new) }
