@@ -1,7 +1,7 @@
-//! A monitor in a program of one's own. It compiles a requirement, takes rows of numbers, and prints the line of each
-//! verdict once it and all earlier ones of its formula are decided.
+//! A program that embeds a monitor. It compiles a requirement, takes rows of numbers, and prints
+//! the line of each verdict when it and all earlier verdicts of its formula are decided.
 //!
-//! A program that watches its own signals does the same: it needs no trace, and no words of a command.
+//! A program that watches its own signals does the same: it needs no trace, and no command line.
 #![tactic(auto)]
 
 use anyhow::Result;
@@ -9,10 +9,10 @@ use c2po_compile::compile;
 use r2u2_monitor::Monitor;
 use std::str;
 
-/// Every request is granted within three steps.
+/// The requirement: every request is granted within three steps.
 const REQUIREMENT: &[u8] = b"INPUT request, grant: bool; FTSPEC granted: request -> F[0,3] grant;";
 
-/// At each time whether something is requested, and whether it is granted.
+/// The rows: at each time, 1 if there is a request, and 1 if there is a grant.
 const ROWS: [[i64; 2]; 6] = [[1, 0], [0, 1], [1, 0], [0, 0], [0, 0], [0, 0]];
 
 fn main(rt: HostRuntime) -> Result<()> {
@@ -20,7 +20,7 @@ fn main(rt: HostRuntime) -> Result<()> {
     watch(&rt, &mut Monitor::load(rt.alloc(), checked)?)
 }
 
-/// Feeds the rows to the monitor, and prints what each of them decides.
+/// Feeds the rows to the monitor, and prints the verdicts that each row decides.
 fn watch(rt: &impl Print, monitor: &mut Monitor) -> Result<()> {
     for row in &ROWS {
         monitor.take(row)?;
