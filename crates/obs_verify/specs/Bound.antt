@@ -5,13 +5,13 @@ use Rattle.mltl_base.specs.declared.operators.BzOp as bz
 use Rattle.mltl_base.specs.declared.program.Program.{Program}
 use Rattle.mltl_base.specs.declared.program.StoredSignal.{StoredSignal}
 
--- the new column of the signal in a column; the column itself where there is no signal
+-- the new column of the signal in a column; the column itself if it has no signal
 unfoldable pub moved : List StoredSignal → List ℕ → ℕ → ℕ
 moved [] columns c = c
 moved (signal ∷ signals) [] c = c
 moved (signal ∷ signals) (new ∷ columns) c = if signal.column == c then new else moved signals columns c
 
--- an instruction that reads the column which its signal gets
+-- the instruction with the new column of the signal that it reads
 abbrev pub bound_op : List StoredSignal → List ℕ → bz.BzOp → bz.BzOp
 bound_op signals columns (bz.TheVariants.Column c) = bz.TheVariants.Column (moved signals columns c)
 bound_op signals columns (bz.TheVariants.IsTrue c) = bz.TheVariants.IsTrue (moved signals columns c)
@@ -26,7 +26,7 @@ bound_op signals columns (bz.TheVariants.Eq a b) = bz.TheVariants.Eq a b
 bound_op signals columns (bz.TheVariants.Lt a b) = bz.TheVariants.Lt a b
 bound_op signals columns (bz.TheVariants.Le a b) = bz.TheVariants.Le a b
 
--- signals in new columns
+-- the signals in these columns
 unfoldable pub bound_signals : List StoredSignal → List ℕ → List StoredSignal
 bound_signals [] columns = []
 bound_signals (signal ∷ signals) [] = signal ∷ signals

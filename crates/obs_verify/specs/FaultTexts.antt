@@ -14,11 +14,11 @@ part_name part.TheVariants.Pt = codes "pt"
 abbrev pub with_number : List ℕ → ℕ → List ℕ
 with_number name n = name ++ codes " " ++ decimal n
 
--- the same with the part between them
+-- a fault's name, its part and its number
 abbrev pub parted : List ℕ → part.Part → ℕ → List ℕ
 parted name p n = name ++ codes " " ++ part_name p ++ codes " " ++ decimal n
 
--- why a program isn't well-formed
+-- the text of a program's fault
 abbrev pub verify_fault_text : fault.VerifyFault → List ℕ
 verify_fault_text fault.TheVariants.Width = codes "width"
 verify_fault_text (fault.TheVariants.Signal k) = with_number (codes "signal") k

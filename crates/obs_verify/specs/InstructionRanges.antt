@@ -1,4 +1,4 @@
--- The range of an instruction of the Booleanizer, from the ranges of those before it.
+-- The range of an instruction of the Booleanizer, from the ranges of the instructions before it.
 
 use Rattle.std.specs.Prelude.{ℕ, ◌≡◌, ◌<◌, pos, Ok, List, length, slice_index_or, ⊤}
 use Rattle.mltl_base.specs.declared.operators.BzOp as bz
@@ -10,7 +10,7 @@ use Rattle.mltl_base.specs.Ranges.{over_both, over_divisor, range, range_from, s
 abbrev pub range_at : List Range → ℕ → Ranged
 range_at before a = Ok (slice_index_or before a (range_from (pos 0) (pos 0)))
 
--- the range of a Boolean instruction is that of 0
+-- the range of an instruction, from the ranges before it; a Boolean has the range of 0
 abbrev pub range_over : List Range → bz.BzOp → Ranged
 range_over before (bz.TheVariants.Column c) = Ok signal_range
 range_over before (bz.TheVariants.IsTrue c) = Ok (range_from (pos 0) (pos 0))
@@ -25,7 +25,7 @@ range_over before (bz.TheVariants.Eq a b) = Ok (range_from (pos 0) (pos 0))
 range_over before (bz.TheVariants.Lt a b) = Ok (range_from (pos 0) (pos 0))
 range_over before (bz.TheVariants.Le a b) = Ok (range_from (pos 0) (pos 0))
 
--- the ranges are those of the first instructions, in order
+-- the ranges are the ranges of the first instructions, in order
 pub record AreRanges (bz : List bz.BzOp) (ranges : List Range) : Type 0 where
   pub each : (k : ℕ) → k < length ranges → range (term_at (expressions bz) k) ≡ range_at ranges k
 

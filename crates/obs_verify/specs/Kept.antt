@@ -1,4 +1,4 @@
--- What a checked program keeps.
+-- The contents of a checked program.
 
 use Rattle.std.specs.Prelude.{ℕ, ◌≡◌, ◌≤◌, List, All, Option}
 use Rattle.mltl_base.specs.declared.limits.TheConstants.{MAX_DELAY}
@@ -8,7 +8,7 @@ use Rattle.obs_verify.specs.Layout.{HasLayout}
 use Rattle.obs_verify.specs.SignalNumbers.{signals_read}
 use Rattle.obs_verify.specs.WellFormed.{IsWellFormed}
 
--- a well-formed program with its delays and the signals that its instructions read
+-- the program is well-formed, and has these delays and these numbers of the signals that its instructions read
 pub record IsKept (program : Program) (bests worsts : List ℕ) (signal_numbers : List (Option ℕ)) : Type 0 where
   pub layout : HasLayout program
   pub well_formed : IsWellFormed program

@@ -1,4 +1,4 @@
--- What a pass over stored signals keeps: the kinds of signals by column, and the names.
+-- The state of a pass over stored signals: the kinds of signals by column, and the names.
 
 use Rattle.std.specs.Prelude.{ℕ, ◌≡◌, ◌<◌, Bool, true, false, List, length, slice_index_or}
 use Rattle.std.specs.List.{list_any}
@@ -20,7 +20,7 @@ AreKinds signals kinds =
 abbrev pub NameSet : Type 0
 NameSet = BTreeSet (Vec ℕ Global)
 
--- whether a name is in the set
+-- true if the name is in the set
 abbrev pub has_name : NameSet → List ℕ → Bool
 has_name names bytes = list_any (λ name. bytes_eq bytes name.items) names.keys
 

@@ -1,13 +1,13 @@
--- What the layout of program files gives every program, well-formed or not.
+-- The layout that program files give every program, well-formed or not.
 
 use Rattle.std.specs.Prelude.{◌≡◌, ◌⊎◌, ◌<◌, ◌^◌, [], length}
 use Rattle.mltl_base.specs.declared.program.Program.{Program}
 
--- version 1 without signals, or version 2
+-- the program has version 1 and no signals, or version 2
 abbrev pub HasVersion : Program → Type 0
 HasVersion program = ((program.version ≡ 1) × (program.signals ≡ [])) ⊎ (program.version ≡ 2)
 
--- a size for each instruction of the engines, lists of fewer than 2 ^ 32 members, and one of the versions
+-- the program has a size for each instruction of the engines, lists of fewer than 2 ^ 32 members, and a known version
 pub record HasLayout (program : Program) : Type 0 where
   pub ft_sizes : length program.sizes.ft ≡ length program.ft
   pub pt_sizes : length program.sizes.pt ≡ length program.pt

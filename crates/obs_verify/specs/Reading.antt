@@ -1,4 +1,4 @@
--- Columns that instructions read lie in a row.
+-- Columns that instructions read and that lie in a row.
 
 use Rattle.std.specs.Prelude.{ℕ, ◌<◌, ⊤}
 use Rattle.mltl_base.specs.declared.operators.BzOp as bz

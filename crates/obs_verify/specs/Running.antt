@@ -1,4 +1,4 @@
--- What the engines rely on in a program.
+-- Properties of a program that the engines rely on.
 
 use Rattle.std.specs.Prelude.{◌≡◌, ℕ, ◌≤◌, ◌<◌, Option, Some, None, List, length, sum, slice_get, slice_index_or, All}
 use Rattle.std.specs.Prelude.{⊤}
@@ -9,7 +9,7 @@ use Rattle.mltl_base.specs.declared.program.Program.{Program}
 use Rattle.mltl_base.specs.Programs.{Expression, whole, truth, expressions}
 use Rattle.mltl_base.specs.Queues.{AreInOrder, HasBounds, HasPastBounds, box_counts, queue_lengths}
 
--- an instruction of the Booleanizer that is Boolean
+-- the instruction of the Booleanizer is Boolean
 abbrev pub IsTruthExpression : Option Expression → Type 0
 IsTruthExpression (Some (truth a)) = ⊤
 IsTruthExpression (Some (whole e)) = ⊥

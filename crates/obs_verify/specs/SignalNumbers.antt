@@ -1,5 +1,5 @@
--- Which stored signals the instructions of a program read: the table by which a program moves to other columns in one
--- pass over its instructions.
+-- The stored signals that the instructions of a program read: a program moves to other columns by this table, in one pass
+-- over its instructions.
 
 use Rattle.std.specs.Prelude.{ℕ, ◌==◌, suc, if◌then◌else◌, Option, None, Some, option_map, List, [], ◌∷◌, map}
 use Rattle.mltl_base.specs.declared.operators.BzOp as bz
@@ -17,6 +17,6 @@ signal_read signals (bz.TheVariants.Column c) = signal_in signals c
 signal_read signals (bz.TheVariants.IsTrue c) = signal_in signals c
 signal_read signals op = None
 
--- for each instruction the number of the signal that it reads
+-- for each instruction the number of the signal that it reads, if any
 abbrev pub signals_read : Program → List (Option ℕ)
 signals_read program = map (signal_read program.signals) program.bz

@@ -14,16 +14,16 @@ IsWholeExpression (Some (whole e)) = ⊤
 IsWholeExpression (Some (truth a)) = ⊥
 IsWholeExpression None = ⊥
 
--- an earlier integer instruction
+-- an earlier instruction is an integer
 abbrev pub IsWhole : List Expression → ℕ → Type 0
 IsWhole before a = IsWholeExpression (slice_get before a)
 
--- two earlier integer instructions
+-- two earlier instructions are integers
 abbrev pub AreWhole : List Expression → ℕ → ℕ → Type 0
 AreWhole before a b = IsWhole before a × IsWhole before b
 
--- an instruction whose column is below the width, whose operands are earlier integers, and whose integer has a range:
--- so its divisor is one number other than 0, and its value has 64 bits
+-- the instruction reads a column below the width or earlier integers, and its integer has a range: so its divisor is a
+-- single number other than 0, and its value has 64 bits
 abbrev pub SoundOp : ℕ → List Expression → BzOp → Type 0
 SoundOp width before (Column c) = c < width
 SoundOp width before (IsTrue c) = c < width
@@ -38,7 +38,7 @@ SoundOp width before (Eq a b) = AreWhole before a b
 SoundOp width before (Lt a b) = AreWhole before a b
 SoundOp width before (Le a b) = AreWhole before a b
 
--- each instruction, over the expressions of those before it
+-- each instruction is sound, over the expressions of the instructions before it
 unfoldable pub SoundOps : ℕ → List Expression → List BzOp → Type 0
 SoundOps width before [] = ⊤
 SoundOps width before (op ∷ ops) = SoundOp width before op × SoundOps width (before ++ expression_of before op ∷ []) ops

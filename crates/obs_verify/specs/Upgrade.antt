@@ -43,28 +43,27 @@ signals_below width signals = filter_map (signal_of signals) (range_with_len 0 w
 abbrev pub raised : Program → Program
 raised program = record program { version = 2; signals = signals_below program.width (reads program.bz) }
 
--- a program of version 2 is itself
+-- the program in version 2; a program of version 2 stays
 abbrev pub up : Program → Program
 up program = if program.version == 2 then program else raised program
 
--- the instruction reads a column that an earlier one reads in the other way
+-- true if the instruction reads a column that an earlier one reads as the other kind
 abbrev pub clashes : List bz.BzOp → bz.BzOp → Bool
 clashes earlier (bz.TheVariants.Column c) = has_kind (reads earlier) c true
 clashes earlier (bz.TheVariants.IsTrue c) = has_kind (reads earlier) c false
 clashes earlier op = false
 
--- the number of the first such instruction, after those before
+-- the number of the first instruction that clashes with an earlier one
 unfoldable pub first_clash : List bz.BzOp → List bz.BzOp → Option ℕ
 first_clash earlier [] = None
 first_clash earlier (op ∷ ops) =
     if clashes earlier op then Some (length earlier) else first_clash (earlier ++ op ∷ []) ops
 
--- where a program of version 1 reads one column in both ways, there is no program of version 2: the instruction that
--- shows it
+-- the first clash of a program of version 1, which then has no version 2; none if no column is read as both kinds
 abbrev pub clash_of : Program → Option ℕ
 clash_of program = if program.version == 2 then None else first_clash [] program.bz
 
--- the fault names that instruction, unless out of memory
+-- the fault names the clash, unless out of memory
 abbrev pub NamesClash : UpgradeFault → Option ℕ → Type 0
 NamesClash (Both i) clash = clash ≡ Some i
 NamesClash Memory clash = ⊤

@@ -24,7 +24,7 @@ use Rattle.obs_verify.specs.declared.fault.VerifyFault.TheVariants.{Width, Signa
 use Rattle.obs_verify.specs.declared.fault.VerifyFault.TheVariants.{Divisor, Range, TooLate, Output, Size, TooManySlots}
 use Rattle.obs_verify.specs.declared.fault.VerifyFault.TheVariants.{Memory}
 
--- no fault where a test holds
+-- the fault, or none if the test holds
 abbrev pub unless : Bool → VerifyFault → Option VerifyFault
 unless test fault = if test then None else Some fault
 
@@ -33,7 +33,7 @@ abbrev pub earlier_of : Option VerifyFault → Option VerifyFault → Option Ver
 earlier_of (Some fault) other = Some fault
 earlier_of None other = other
 
--- the first fault of members by a rule, where the first member has the number k
+-- the first fault of members by a rule, if the first member has the number k
 unfoldable pub first_in : {X : Type 0} → (ℕ → X → Option VerifyFault) → ℕ → List X → Option VerifyFault
 first_in rule k [] = None
 first_in rule k (x ∷ xs) = earlier_of (rule k x) (first_in rule (suc k) xs)
@@ -44,7 +44,7 @@ width_fault program = unless (nat_le program.width MAX_SIGNALS) Width
 
 -- 2. Stored signals have columns of a row, and no column or name twice.
 
--- a signal has a column of a row, and no earlier one has its column or its name
+-- true if the signal has a column of a row, and no earlier signal has its column or its name
 abbrev pub is_new_signal : ℕ → List StoredSignal → StoredSignal → Bool
 is_new_signal width earlier signal =
     (nat_lt signal.column width && not (list_any (λ before. before.column == signal.column) earlier))
@@ -57,7 +57,7 @@ signal_fault program k signal = unless (is_new_signal program.width (take k prog
 -- 3. Instructions of the Booleanizer read columns of their kind and integers of earlier instructions, divide by
 -- numbers other than 0, and have values of 64 bits.
 
--- the instruction at an index is an integer
+-- true if the instruction that is there is an integer
 abbrev pub is_whole : Option bz.BzOp → Bool
 is_whole None = false
 is_whole (Some (bz.TheVariants.IsTrue c)) = false
@@ -66,7 +66,7 @@ is_whole (Some (bz.TheVariants.Lt a b)) = false
 is_whole (Some (bz.TheVariants.Le a b)) = false
 is_whole (Some op) = true
 
--- the instruction at an index is Boolean
+-- true if the instruction that is there is a Boolean
 abbrev pub is_truth : Option bz.BzOp → Bool
 is_truth None = false
 is_truth (Some (bz.TheVariants.IsTrue c)) = true
@@ -75,22 +75,22 @@ is_truth (Some (bz.TheVariants.Lt a b)) = true
 is_truth (Some (bz.TheVariants.Le a b)) = true
 is_truth (Some op) = false
 
--- an instruction before number i is an integer
+-- true if instruction a, before number i, is an integer
 abbrev pub is_whole_before : Program → ℕ → ℕ → Bool
 is_whole_before program i a = is_whole (slice_get (take i program.bz) a)
 
--- the column has a signal of this kind
+-- true if the column has a signal of this kind
 abbrev pub has_kind : List StoredSignal → ℕ → Bool → Bool
 has_kind signals c truth =
     list_any (λ signal. (signal.column == c) && (if truth then signal.truth else not signal.truth)) signals
 
--- the column is one of a row, and in version 2 that of a stored signal of this kind
+-- true if the column is in a row, and in version 2 has a stored signal of this kind
 abbrev pub is_column_of : Program → ℕ → Bool → Bool
 is_column_of program c truth =
     nat_lt c program.width
     && ((program.version == 1) || has_kind program.signals c truth)
 
--- what instruction i reads, if anything, is a column of its kind or integers of earlier instructions
+-- true if instruction i reads only columns of its kind and integers of earlier instructions
 abbrev pub has_operands : Program → ℕ → bz.BzOp → Bool
 has_operands program i (bz.TheVariants.Column c) = is_column_of program c false
 has_operands program i (bz.TheVariants.IsTrue c) = is_column_of program c true
@@ -120,11 +120,11 @@ bz_fault program i op =
 -- 4. Instructions of the future-time engine load truths and read earlier instructions, over intervals within the limit;
 -- none is too late.
 
--- the bounds of an interval are in order and within the limit
+-- true if the bounds of the interval are in order and within the limit
 abbrev pub is_window : Interval → Bool
 is_window i = nat_le i.lo i.hi && nat_le i.hi MAX_BOUND
 
--- what instruction i of the future-time engine reads, if anything, is a Boolean or earlier instructions
+-- true if instruction i of the future-time engine reads only a Boolean or earlier instructions
 abbrev pub has_future_operands : Program → ℕ → ft.FtOp → Bool
 has_future_operands program i ft.TheVariants.True = true
 has_future_operands program i (ft.TheVariants.Load a) = is_truth (slice_get program.bz a)
@@ -132,7 +132,7 @@ has_future_operands program i (ft.TheVariants.Not g) = nat_lt g i
 has_future_operands program i (ft.TheVariants.And l r) = nat_lt l i && nat_lt r i
 has_future_operands program i (ft.TheVariants.Until l r window) = nat_lt l i && nat_lt r i
 
--- the interval of an instruction of the future-time engine, if it has one, is within the limit
+-- true if the interval of a future-time instruction, if any, is in order and within the limit
 abbrev pub has_future_window : ft.FtOp → Bool
 has_future_window ft.TheVariants.True = true
 has_future_window (ft.TheVariants.Load a) = true
@@ -150,9 +150,9 @@ ft_fault program i op =
 abbrev pub late_fault : ℕ → ℕ → Option VerifyFault
 late_fault i delay = unless (nat_le delay MAX_DELAY) (TooLate i)
 
--- 5. So do instructions of the past-time engine.
+-- 5. Instructions of the past-time engine follow the same rule.
 
--- what instruction i of the past-time engine reads, if anything, is a Boolean or earlier instructions
+-- true if instruction i of the past-time engine reads only a Boolean or earlier instructions
 abbrev pub has_past_operands : Program → ℕ → pt.PtOp → Bool
 has_past_operands program i pt.TheVariants.True = true
 has_past_operands program i (pt.TheVariants.Load a) = is_truth (slice_get program.bz a)
@@ -160,7 +160,7 @@ has_past_operands program i (pt.TheVariants.Not g) = nat_lt g i
 has_past_operands program i (pt.TheVariants.And l r) = nat_lt l i && nat_lt r i
 has_past_operands program i (pt.TheVariants.Since l r window) = nat_lt l i && nat_lt r i
 
--- the interval of an instruction of the past-time engine, if it has one, is within the limit
+-- true if the interval of a past-time instruction, if any, is in order and within the limit
 abbrev pub has_past_window : pt.PtOp → Bool
 has_past_window pt.TheVariants.True = true
 has_past_window (pt.TheVariants.Load a) = true
@@ -175,7 +175,7 @@ pt_fault program i op =
 
 -- 6. Outputs report instructions of their engine.
 
--- an output reports instructions that its engine has
+-- true if the output reports instructions that its engine has
 abbrev pub reports_within : ℕ → ℕ → out.Out → Bool
 reports_within fts pts (out.TheVariants.Formula engine.Ft g name) = nat_lt g fts
 reports_within fts pts (out.TheVariants.Formula engine.Pt g name) = nat_lt g pts
@@ -190,7 +190,7 @@ output_fault program k output = unless (reports_within (length program.ft) (leng
 abbrev pub slots_fault : Program → Option VerifyFault
 slots_fault program = unless (nat_le (slot_count program.ft program.pt program.outs) MAX_SLOTS) TooManySlots
 
--- 8. The stored sizes are those that the instructions need.
+-- 8. The stored sizes are the sizes that the instructions need.
 abbrev pub size_fault : Part → List ℕ → ℕ → ℕ → Option VerifyFault
 size_fault part needed i size = unless (size == slice_index needed i) (Size part i)
 
@@ -208,10 +208,10 @@ first_fault program =
     (earlier_of (first_in (size_fault Ft (queue_lengths program.ft program.outs)) 0 program.sizes.ft)
     (first_in (size_fault Pt (box_counts program.pt)) 0 program.sizes.pt)))))))))
 
--- a program without a fault
+-- the program has no fault
 abbrev pub IsWellFormed : Program → Type 0
 IsWellFormed program = first_fault program ≡ None
 
--- a result says whether a fault was found: which one, unless out of memory
+-- a result is a success if no fault was found, and else the fault, unless out of memory
 abbrev pub IsAnswer : {T : Type 0} → Result T VerifyFault → Option VerifyFault → Type 0
 IsAnswer result found = MatchResult result (λ _. found ≡ None) (λ fault. fault ≢ Memory → found ≡ Some fault)

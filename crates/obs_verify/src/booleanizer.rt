@@ -1,4 +1,4 @@
-//! The rules of the Booleanizer's instructions: what they read, what they divide by, and their ranges.
+//! Rules of the Booleanizer's instructions: their operands, their divisors and their ranges.
 
 ghost use Rattle.std.specs.Prelude.{◌≡◌, ◌<◌, ◌≤◌, ◌^◌, Some, length, slice_get, take, IfOk, Ok};
 ghost use Rattle.mltl_base.specs.Programs.{expressions, term_at};
@@ -14,7 +14,8 @@ use mltl_base::range::{constant, difference, negation, product, quotient, remain
 use mltl_base::{BzOp, NoRange, Part, Program, Range};
 use std::alloc::Global;
 
-/// Whether the instructions of the Booleanizer read what they may read, divide by numbers, and stay within 64 bits.
+/// Checks that the instructions of the Booleanizer read what they may, divide by numbers, and stay
+/// within 64 bits.
 pub fn check_booleanizer(
     alloc: Global,
     program: &Program,
@@ -33,7 +34,7 @@ pub fn check_booleanizer(
     Ok(())
 }
 
-/// Checks the instruction that follows those with these ranges, and finds its range.
+/// Checks an instruction that follows instructions with these ranges, and appends its range.
 fn check_op(
     program: &Program,
     kinds: &[Kinds],
@@ -60,7 +61,7 @@ fn check_op(
     }
 }
 
-/// The range of an instruction, from the ranges of those before it.
+/// Returns the range of an instruction, from the ranges of the instructions before it.
 fn range_of(before: &[Range], op: &BzOp) -> Result<Range, NoRange>
     requires { ReadsBefore (length before.now) op.now }
     ensures { IsRangeOf result (range_over before.now op.now) }
@@ -78,7 +79,7 @@ fn range_of(before: &[Range], op: &BzOp) -> Result<Range, NoRange>
     }
 }
 
-/// Whether an instruction reads columns of its kind and integers of instructions before it.
+/// Returns true if an instruction reads columns of its kind and integers of earlier instructions.
 fn has_operands(program: &Program, kinds: &[Kinds], i: usize, op: &BzOp) -> bool
     requires long { length kinds.now ≡ program.now.width }
     requires kinds { AreKinds program.now.signals kinds.now }

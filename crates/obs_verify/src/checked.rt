@@ -1,4 +1,4 @@
-//! Programs that were checked.
+//! Programs that passed the verifier.
 
 ghost use Rattle.std.specs.Prelude.{◌≡◌, ◌≤◌, ◌<◌, [], None, All, IfOk, IfErr, OnOk, length, slice_index_or};
 ghost use Rattle.mltl_base.specs.Queues.{best_delays, worst_delays};
@@ -19,8 +19,8 @@ use mltl_base::{Columns, List, Program, StoredSignal};
 use std::alloc::{AllocError, Global};
 use std::marker::Model;
 
-/// A well-formed program with its delays and, for each instruction of the Booleanizer, the number of the stored signal
-/// that it reads. Contracts see it as the program.
+/// A well-formed program with its delays and, for each instruction of the Booleanizer, the number
+/// of the stored signal that it reads. Contracts see the program.
 #[derive(Drop)]
 pub struct Checked {
     program: Program,
@@ -42,7 +42,8 @@ impl Model for Checked {
 }
 
 impl Checked {
-    /// A well-formed program as a checked one, with the delays of its future-time instructions. No rule is tried again.
+    /// Makes a checked program of a well-formed one and the delays of its future-time instructions.
+    /// No rule is checked again.
     pub fn of(alloc: Global, program: Program, delays: Delays) -> Result<Checked, AllocError>
         requires layout { HasLayout program }
         requires well_formed { IsWellFormed program }
@@ -59,7 +60,7 @@ impl Checked {
         })
     }
 
-    /// The program.
+    /// Returns the program.
     pub fn program(&self) -> &Program
         ensures program { result.now ≡ self.now }
         ensures well_formed { IsWellFormed self.now }
@@ -68,7 +69,7 @@ impl Checked {
         &self.program
     }
 
-    /// The delays of its future-time instructions.
+    /// Returns the delays of its future-time instructions.
     pub fn delays(&self) -> &Delays
         ensures best { result.now.best ≡ best_delays self.now.ft }
         ensures worst { result.now.worst ≡ worst_delays self.now.ft }
@@ -77,7 +78,8 @@ impl Checked {
         &self.delays
     }
 
-    /// The number of the stored signal that instruction `i` of the Booleanizer reads, if it reads one.
+    /// Returns the number of the stored signal that instruction `i` of the Booleanizer reads, if
+    /// any.
     pub fn signal_number(&self, i: usize) -> Option<u32>
         ensures { result ≡ slice_index_or (signals_read self.now) i None }
     {
@@ -88,7 +90,7 @@ impl Checked {
     }
 }
 
-/// The program as a checked one, or its first fault. It is dropped where it has one.
+/// Checks a program. Returns the checked program, or drops it and returns its first fault.
 pub fn verify(alloc: Global, program: Program) -> Result<Checked, VerifyFault>
     requires { HasLayout program }
     ensures answer { IsAnswer result (first_fault program) }
@@ -98,8 +100,8 @@ pub fn verify(alloc: Global, program: Program) -> Result<Checked, VerifyFault>
     Ok(Checked::of(alloc, program, delays)?)
 }
 
-/// Moves signal k to column k of the list, in its entry and in the instructions that read it, in one pass over both.
-/// It does not allocate.
+/// Moves signal k to column k of the list, in its entry and in the instructions that read it, in
+/// one pass over both. Does not allocate.
 pub fn rebind(checked: Checked, columns: &Columns) -> Checked
     requires version { checked.version ≡ 2 }
     requires one_each { length columns.now.of_signal ≡ length checked.signals }
@@ -124,8 +126,8 @@ pub fn rebind(checked: Checked, columns: &Columns) -> Checked
     }
 }
 
-/// The program in version 2: one of version 1 gets a stored signal for each column that an instruction reads. Where one
-/// column is read in both ways there is none; the program is dropped then.
+/// Returns the program in version 2: a program of version 1 gets a stored signal for each column
+/// that an instruction reads. If a column is read as both kinds, fails and drops the program.
 pub fn upgrade(alloc: Global, checked: Checked) -> Result<Checked, UpgradeFault>
     ensures up { IfOk result (λ upgraded. upgraded ≡ up checked) }
     ensures one_way { OnOk result (clash_of checked ≡ None) }
@@ -140,7 +142,7 @@ pub fn upgrade(alloc: Global, checked: Checked) -> Result<Checked, UpgradeFault>
     Ok(upgraded)
 }
 
-/// The program in version 2, with these signals.
+/// Returns the program in version 2, with these signals.
 fn with_signals(
     alloc: Global,
     checked: Checked,

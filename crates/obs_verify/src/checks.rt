@@ -1,4 +1,4 @@
-//! The rules of well-formed programs that look at instructions of both engines, at outputs and at sizes.
+//! Rules of well-formed programs on the instructions of both engines, the outputs and the sizes.
 
 ghost use Rattle.std.specs.Prelude.{◌≡◌, ◌<◌, ◌^◌, ℕ, Option, Some, length, slice_get};
 ghost use Rattle.mltl_base.specs.declared.program.Program.{Program as Observer};
@@ -9,7 +9,7 @@ use crate::fault::VerifyFault;
 use mltl_base::limits::{MAX_BOUND, MAX_SIGNALS};
 use mltl_base::{BzOp, Engine, FtOp, Interval, Out, Part, Program, PtOp};
 
-/// Whether the width is within its limit.
+/// Checks that the width is within its limit.
 pub fn check_width(program: &Program) -> Result<(), VerifyFault>
     ensures { IsAnswer result (width_fault program.now) }
 {
@@ -19,11 +19,11 @@ pub fn check_width(program: &Program) -> Result<(), VerifyFault>
     Ok(())
 }
 
-/// A member of a program that a rule looks at.
+/// A member of a program that a rule checks.
 trait Ruled {
     ghost fault_of: { Observer → ℕ → Self → Option Fault };
 
-    /// Checks it as number `i` of its kind.
+    /// Checks the member, number `i` of its kind.
     fn check(&self, program: &Program, i: u32) -> Result<(), VerifyFault>
         ensures { IsAnswer result (fault_of program.now i self.now) };
 }
@@ -39,7 +39,7 @@ fn check_all<T: Ruled>(program: &Program, members: &[T]) -> Result<(), VerifyFau
     Ok(())
 }
 
-/// Whether instructions of the future-time engine read what they may read, over intervals within the limit.
+/// Checks that future-time instructions read what they may, over intervals within the limit.
 pub fn check_future(program: &Program) -> Result<(), VerifyFault>
     requires { length program.now.ft < 2 ^ 32 }
     ensures { IsAnswer result (first_in (ft_fault program.now) 0 program.now.ft) }
@@ -83,7 +83,7 @@ fn keeps_future_bounds(op: &FtOp) -> bool
     }
 }
 
-/// Whether instructions of the past-time engine read what they may read, over intervals within the limit.
+/// Checks that past-time instructions read what they may, over intervals within the limit.
 pub fn check_past(program: &Program) -> Result<(), VerifyFault>
     requires { length program.now.pt < 2 ^ 32 }
     ensures { IsAnswer result (first_in (pt_fault program.now) 0 program.now.pt) }
@@ -151,7 +151,7 @@ fn gives_truth(op: BzOp) -> bool
     )
 }
 
-/// Whether outputs report instructions that exist.
+/// Checks that outputs report instructions that exist.
 pub fn check_outputs(program: &Program) -> Result<(), VerifyFault>
     requires { length program.now.outs < 2 ^ 32 }
     ensures { IsAnswer result (first_in (output_fault program.now) 0 program.now.outs) }
@@ -183,7 +183,7 @@ fn reports_existing(out: &Out, fts: usize, pts: usize) -> bool
     }
 }
 
-/// Whether stored sizes are those that the instructions need.
+/// Checks that stored sizes are the sizes that the instructions need.
 pub fn check_stored(part: Part, stored: &[u32], needed: &[u32]) -> Result<(), VerifyFault>
     requires few { length stored.now < 2 ^ 32 }
     requires same { length stored.now ≡ length needed.now }

@@ -1,4 +1,4 @@
-//! Programs whose stored signals are moved to other columns.
+//! Programs with their stored signals in other columns.
 
 ghost use Rattle.std.specs.Prelude.{◌≡◌, ℕ, length, map};
 ghost use Rattle.mltl_base.specs.declared.operators.BzOp.TheVariants as bz;
@@ -7,7 +7,7 @@ ghost use Rattle.obs_verify.specs.SignalNumbers.{signals_read};
 
 use mltl_base::{BzOp, List, Program, StoredSignal};
 
-/// Moves the columns that instructions read, of each the number of the signal there.
+/// Moves the columns that instructions read, given the number of the signal that each reads.
 pub fn move_reads(program: &mut Program, signal_numbers: &[Option<u32>], columns: &[u32])
     requires one_each { length columns.now ≡ length program.old.signals }
     requires signal_numbers { signal_numbers.now ≡ signals_read program.old }
@@ -22,7 +22,7 @@ pub fn move_reads(program: &mut Program, signal_numbers: &[Option<u32>], columns
     }
 }
 
-/// An instruction that reads this column in place of its column.
+/// Returns the instruction with this column in place of its own.
 fn moved_to(op: BzOp, column: u32) -> BzOp
     ensures whole { (c : ℕ) → op ≡ bz.Column c → result ≡ bz.Column column }
     ensures truth { (c : ℕ) → op ≡ bz.IsTrue c → result ≡ bz.IsTrue column }
@@ -34,7 +34,7 @@ fn moved_to(op: BzOp, column: u32) -> BzOp
     }
 }
 
-/// Moves the signals themselves.
+/// Moves the signals to these columns.
 pub fn move_signals(signals: &mut List<StoredSignal>, columns: &[u32])
     requires { length columns.now ≡ length signals.old }
     ensures { signals.new ≡ bound_signals signals.old columns.now }

@@ -1,4 +1,4 @@
-//! Why a program isn't well-formed.
+//! Faults of programs that aren't well-formed.
 
 ghost use Rattle.std.specs.Prelude.{◌≡◌, length};
 ghost use Rattle.obs_verify.specs.FaultTexts.{part_name};
@@ -8,24 +8,24 @@ use std::alloc::AllocError;
 use std::error::Error;
 use std::fmt;
 
-/// The first fault of a program, by the rules of well-formed programs in their order. Numbers count from 0.
+/// The first fault of a program, in the order of the rules. Numbers count from 0.
 #[derive(Clone, Copy)]
 pub enum VerifyFault {
     /// The width is above its limit.
     Width,
-    /// A stored signal has no column of a row, or the column or the name of one before.
+    /// A stored signal has no column of a row, or has the column or the name of an earlier signal.
     Signal(u32),
     /// An instruction reads a column or an instruction that it can't read.
     Operand(Part, u32),
     /// An interval runs downward or past its limit.
     Interval(Part, u32),
-    /// An instruction divides by what isn't a number other than 0.
+    /// The divisor of an instruction isn't a single number other than 0.
     Divisor(u32),
     /// An instruction may have a value of more than 64 bits.
     Range(u32),
     /// The worst-case delay of a future-time instruction is above its limit.
     TooLate(u32),
-    /// An output reports an instruction that isn't there.
+    /// An output reports an instruction that doesn't exist.
     Output(u32),
     /// A stored size isn't the size that the instruction needs.
     Size(Part, u32),
@@ -74,7 +74,7 @@ impl fmt::Debug for VerifyFault {
 
 impl Error for VerifyFault {}
 
-/// The name of a part of a program, as faults print it.
+/// Returns the name of a part of a program, as faults print it.
 pub fn name_of_part(part: Part) -> &'static str
     ensures text { result.now ≡ part_name part }
     ensures short { length result.now ≡ 2 }
@@ -96,10 +96,10 @@ impl From<AllocError> for VerifyFault {
     }
 }
 
-/// Why a program of version 1 has none of version 2.
+/// The reason why a program of version 1 has no version 2.
 #[derive(Clone, Copy)]
 pub enum UpgradeFault {
-    /// The first instruction that reads a column which an earlier one reads in the other way.
+    /// This is the first instruction that reads a column as another kind than an earlier one does.
     Both(u32),
     Memory,
 }

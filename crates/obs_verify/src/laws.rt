@@ -1,4 +1,4 @@
-//! What well-formed programs have: each law is the contract of a function with an empty body.
+//! Laws of well-formed programs: each is the contract of an empty function.
 
 ghost use Rattle.std.specs.Prelude.{◌≡◌, [], All, length};
 ghost use Rattle.mltl_base.specs.declared.program.Program.{Program as Observer};

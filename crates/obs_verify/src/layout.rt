@@ -5,11 +5,11 @@ ghost use Rattle.obs_verify.specs.Layout.{HasLayout, HasVersion};
 
 use mltl_base::Program;
 
-/// The least number that has no 32 bits.
+/// The least number that doesn't fit into 32 bits.
 const COUNTS: usize = 4_294_967_296;
 
-/// Whether a program may be given to `verify`: it has a size for each instruction of the engines, lists of fewer than
-/// 2^32 members, and version 1 without signals or version 2.
+/// Returns true if `verify` accepts the program: it has a size for each instruction of the engines,
+/// lists of fewer than 2^32 members, and version 1 without signals or version 2.
 pub fn has_layout(program: &Program) -> bool
     ensures { IsTrue result ↔ HasLayout program.now }
 {

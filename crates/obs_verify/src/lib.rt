@@ -1,6 +1,7 @@
-//! Observer programs that are well-formed: the eight rules of the verifier, and programs that passed them.
+//! Well-formed observer programs: the eight rules of the verifier, and programs that passed them.
 //!
-//! Stored sizes are never trusted: the verifier finds the sizes that the instructions need, and compares.
+//! Stored sizes are never trusted: the verifier computes the sizes that the instructions need, and
+//! compares.
 #![tactic(auto)]
 
 mod booleanizer;

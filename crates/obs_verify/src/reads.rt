@@ -1,4 +1,4 @@
-//! The stored signals of programs of version 1, one for each column that an instruction reads.
+//! Stored signals for programs of version 1, one for each column that an instruction reads.
 
 ghost use Rattle.std.specs.Prelude.{◌≡◌, ◌<◌, ◌≤◌, ◌^◌, ◌++◌, ◌∷◌, [], None, List as Items, length, not, All, IfOk, IfErr, OnOk, IsTrue};
 ghost use Rattle.mltl_base.specs.declared.operators.BzOp.{BzOp as Op};
@@ -13,8 +13,8 @@ use crate::signals::{Kinds, is_empty, note_kind};
 use mltl_base::{BzOp, List, Name, StoredSignal};
 use std::alloc::{AllocError, Global};
 
-/// The signals that the instructions of a program read, by rising column. A column is read in one way, or the first
-/// instruction that reads it in the other way is the answer.
+/// Returns the signals that the instructions of a program read, by rising column, or the first
+/// instruction that reads a column as another kind than an earlier instruction does.
 pub fn read_signals(
     alloc: Global,
     ops: &[BzOp],
@@ -36,7 +36,7 @@ pub fn read_signals(
     Ok(signals)
 }
 
-/// Notes how instructions read each column, as long as it is in one way.
+/// Notes the kind in which instructions read each column, up to the first that differs.
 fn note_reads(ops: &[BzOp], kinds: &mut [Kinds]) -> Result<(), UpgradeFault>
     requires few { length ops.now < 2 ^ 32 }
     requires within { All (ReadsWithin (length kinds.old)) ops.now }
@@ -53,7 +53,8 @@ fn note_reads(ops: &[BzOp], kinds: &mut [Kinds]) -> Result<(), UpgradeFault>
     Ok(())
 }
 
-/// Notes the column that an instruction reads, if it reads one; false where an earlier one reads it in the other way.
+/// Notes the column that an instruction reads, if any. Returns false if an earlier instruction
+/// reads it as the other kind.
 fn note_read(kinds: &mut [Kinds], op: &BzOp) -> bool
     requires { ReadsWithin (length kinds.old) op.now }
     ensures fits { (earlier : Items Op) → AreKinds (reads earlier) kinds.old
@@ -83,7 +84,7 @@ fn note_column(kinds: &mut [Kinds], c: u32, truth: bool) -> bool
     true
 }
 
-/// The signals of these kinds, one for each column that has one.
+/// Returns the signals of these kinds, one for each column that has a kind.
 fn signals_of(alloc: Global, kinds: &[Kinds]) -> Result<List<StoredSignal>, AllocError>
     requires few { length kinds.now < 2 ^ 32 }
     ensures { IfOk result (λ signals. (earlier : Items Stored) → AreKinds earlier kinds.now
@@ -98,7 +99,7 @@ fn signals_of(alloc: Global, kinds: &[Kinds]) -> Result<List<StoredSignal>, Allo
     Ok(signals)
 }
 
-/// The signal of a column.
+/// Returns the signal of a column.
 fn signal_in(alloc: Global, column: u32, truth: bool) -> Result<StoredSignal, AllocError>
     ensures { IfOk result (λ signal. signal ≡ signal_there column truth) }
 {

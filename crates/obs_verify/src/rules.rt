@@ -16,7 +16,7 @@ use mltl_base::limits::{MAX_BOUND, MAX_DELAY, MAX_SLOTS};
 use mltl_base::{Part, Program, Sizes};
 use std::alloc::Global;
 
-/// The delays of a well-formed program, or the first fault.
+/// Returns the delays of a well-formed program, or the first fault.
 pub fn check_rules(alloc: Global, program: &Program) -> Result<Delays, VerifyFault>
     requires { HasLayout program.now }
     ensures answer { IsAnswer result (first_fault program.now) }
@@ -35,7 +35,7 @@ pub fn check_rules(alloc: Global, program: &Program) -> Result<Delays, VerifyFau
     Ok(found)
 }
 
-/// The delays of the future-time instructions, or the first that is too late.
+/// Returns the delays of the future-time instructions, or the first instruction that is too late.
 fn check_delays(alloc: Global, program: &Program) -> Result<Delays, VerifyFault>
     requires few { length program.now.ft < 2 ^ 32 }
     requires in_order { AreInOrder program.now.ft }
@@ -52,7 +52,7 @@ fn check_delays(alloc: Global, program: &Program) -> Result<Delays, VerifyFault>
     }
 }
 
-/// Whether the sizes that the instructions need are within their limit, and are the stored ones.
+/// Checks that the sizes that the instructions need are within their limit and are stored.
 fn check_sizes(alloc: Global, program: &Program, found: &Delays) -> Result<(), VerifyFault>
     requires layout { HasLayout program.now }
     requires in_order { AreInOrder program.now.ft }

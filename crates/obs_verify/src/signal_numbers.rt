@@ -1,4 +1,4 @@
-//! Which stored signals the instructions of a program read.
+//! The stored signals that the instructions of a program read.
 
 ghost use Rattle.std.specs.Prelude.{◌≡◌, ◌<◌, ◌^◌, ℕ, None, All, List as Items, IfOk, length, slice_index_or, vec_len};
 ghost use Rattle.mltl_base.specs.declared.program.StoredSignal.{StoredSignal as Stored};
@@ -8,7 +8,8 @@ ghost use Rattle.obs_verify.specs.Reading.{ReadsWithin};
 use mltl_base::{BzOp, List, Program, StoredSignal};
 use std::alloc::{AllocError, Global};
 
-/// For each instruction of the Booleanizer the number of the stored signal that it reads, if it reads one.
+/// Returns, for each instruction of the Booleanizer, the number of the stored signal that it reads,
+/// if any.
 pub fn signal_numbers_of(alloc: Global, program: &Program) -> Result<List<Option<u32>>, AllocError>
     requires few { length program.now.signals < 2 ^ 32 }
     requires signals { All (λ signal. signal.column < program.now.width) program.now.signals }
@@ -23,7 +24,7 @@ pub fn signal_numbers_of(alloc: Global, program: &Program) -> Result<List<Option
     Ok(signal_numbers)
 }
 
-/// For each column of a row the number of the first signal there, if there is one.
+/// Returns, for each column of a row, the number of the first signal there, if any.
 fn numbers_by_column(
     alloc: Global,
     signals: &[StoredSignal],
@@ -45,7 +46,8 @@ fn numbers_by_column(
     Ok(numbers)
 }
 
-/// The number of the signal that an instruction reads, by the numbers of the signals in each column.
+/// Returns the number of the signal that an instruction reads, given the number of the signal in
+/// each column.
 fn signal_number(numbers: &[Option<u32>], op: &BzOp) -> Option<u32>
     requires { ReadsWithin (length numbers.now) op.now }
     ensures { (signals : Items Stored)

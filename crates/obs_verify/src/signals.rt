@@ -1,4 +1,4 @@
-//! Stored signals: each has a column of a row, and no two have one column or one name.
+//! Stored signals: each has a column of a row, and no two share a column or a name.
 
 ghost use Rattle.std.specs.Prelude.{◌≡◌, ◌==◌, ◌≤◌, ◌<◌, nat_lt, ◌&&◌, vec_len, ◌^◌, ◌++◌, ◌∷◌, [], ◌||◌, ℕ, List, length, not, true, IfOk, OnOk};
 ghost use Rattle.std.specs.Bool.{OnTrue};
@@ -21,7 +21,7 @@ pub struct Kinds {
     pub truth: bool,
 }
 
-/// Puts a name into a set, and says whether it is new there.
+/// Adds a name to a set. Returns true if it is new.
 fn insert_name(
     alloc: Global,
     names: &mut BTreeSet<Vec<u8>>,
@@ -37,7 +37,8 @@ fn insert_name(
     Ok(is_new)
 }
 
-/// Whether stored signals have columns of a row, each column and each name once; with the kinds by column.
+/// Checks that stored signals have columns of a row, and that no column or name is used twice.
+/// Returns the kinds of each column.
 pub fn check_signals(alloc: Global, program: &Program) -> Result<Vec<Kinds>, VerifyFault>
     requires few { length program.now.signals < 2 ^ 32 }
     ensures answer { IsAnswer result (first_in (signal_fault program.now) 0 program.now.signals) }
@@ -68,7 +69,7 @@ fn note_signals(alloc: Global, program: &Program, kinds: &mut [Kinds]) -> Result
     Ok(())
 }
 
-/// Whether a signal is new among those before; its name is then added to theirs.
+/// Checks that a signal is new among the signals before, and adds its name to their names.
 fn check_signal(
     alloc: Global,
     kinds: &[Kinds],
@@ -93,7 +94,7 @@ fn check_signal(
     Ok(())
 }
 
-/// Whether the column of a signal is in a row, and no signal before has it.
+/// Returns true if the column of a signal is in a row and no earlier signal has it.
 fn is_free(kinds: &[Kinds], signal: &StoredSignal) -> bool
     ensures free { (earlier : List Stored) → AreKinds earlier kinds.now
         → result ≡ (nat_lt signal.now.column (length kinds.now)
@@ -106,7 +107,7 @@ fn is_free(kinds: &[Kinds], signal: &StoredSignal) -> bool
     is_empty(kinds[signal.column as usize])
 }
 
-/// Whether a column has no signal.
+/// Returns true if the column has no signal.
 pub fn is_empty(kinds: Kinds) -> bool
     ensures { result ≡ (not kinds.whole && not kinds.truth) }
 {
