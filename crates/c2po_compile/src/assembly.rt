@@ -18,10 +18,10 @@ use mltl_base::{Columns, Graph, List, Program, Signal, Sizes};
 use obs_verify::Checked;
 use std::alloc::Global;
 
-/// The checked program of a specification that is unfolded, over the columns of its signals.
+/// Returns the checked program of a specification that is unfolded, over the columns of its signals.
 ///
-/// It is the image of the specification where that keeps the limits of instructions, delays and slots. Else the fault
-/// names the first of these limits that it exceeds. An image is well-formed, so no rule is tried on it.
+/// Fails with the first limit that the image of the specification exceeds: of instructions, of delays, or
+/// of slots. An image is well-formed, so no rule is tried on it.
 pub fn build(
     alloc: Global,
     spec: &Expanded,
@@ -59,7 +59,7 @@ struct Timing {
     sizes: Sizes,
 }
 
-/// The delays and the sizes of a graph, or that it is too late or needs too many slots.
+/// Returns the delays and the sizes of a graph. Fails if a delay is too late or if it needs too many slots.
 fn timing_of(alloc: Global, graph: &Graph) -> Result<Timing, BuildFault>
     requires { IsSizable graph.now }
     ensures best { IfOk result (λ found. found.delays.best ≡ best_delays graph.now.ft) }

@@ -11,7 +11,7 @@ pub record AreFew (outs : List Asked) : Type 0 where
   pub ft : length (subformulas Ft outs) ≤ MAX_INSTRUCTIONS
   pub pt : length (subformulas Pt outs) ≤ MAX_INSTRUCTIONS
 
--- one list has more
+-- a list of the specification has more members than the limit
 abbrev pub AreMany : List Asked → Type 0
 AreMany outs =
     (MAX_INSTRUCTIONS < length (bz_expressions outs))

@@ -61,7 +61,7 @@ roots_of part ids outs = flat_map (roots_by part ids) outs
 abbrev pub listed_trees : List Vertex → Part → List ℕ → List PlainOut → List LabelTree
 listed_trees vertices part ids outs = filter (is_in part) (completed (trees_of vertices (roots_of part ids outs)))
 
--- what the outputs over some nodes ask for, over columns
+-- the reports that outputs over some nodes ask for, over columns
 abbrev pub asked_of_nodes : List ℕ → List Plain → List PlainOut → List Asked
 asked_of_nodes columns nodes outs = map (asked_over columns) (map (asked_by (plain.trees nodes)) outs)
 
@@ -117,7 +117,7 @@ pt_op_of loads places _ = pt.TheVariants.True
 abbrev pub vertex_at : List Vertex → ℕ → Vertex
 vertex_at vertices n = slice_index_or vertices n True
 
--- the places of vertices in an engine's part, of those in future time and those in past time
+-- the places of vertices among the instructions of an engine, which is of future or of past time
 abbrev pub places_for : Engine → List ℕ → List ℕ → List ℕ
 places_for engine.Ft ft pt = ft
 places_for engine.Pt ft pt = pt

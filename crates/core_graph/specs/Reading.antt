@@ -1,4 +1,4 @@
--- What the vertices that were made of plain nodes represent.
+-- The vertices of plain nodes, and the expressions and formulas that they represent.
 
 use Rattle.std.specs.Prelude.{◌≡◌, ℕ, Some, List, length, slice_get}
 use Rattle.mltl_base.specs.Atoms.{term_over}
@@ -14,14 +14,14 @@ abbrev pub Represents : List ℕ → List Vertex → ℕ → plain.Tree → Type
 Represents columns vertices n (plain.number a) = Has vertices n (of_term (term_over columns a))
 Represents columns vertices n (plain.formula p) = Has vertices n (of_core (core (formula_over columns p)))
 
--- there is a vertex for each node, which represents what the node unfolds to
+-- each node has a vertex, which represents the expression or formula that the node unfolds to
 pub record AreRead (columns : List ℕ) (vertices : List Vertex) (nodes : List Plain) (ids : List ℕ) : Type 0 where
   pub forest : IsForest vertices
   pub count : length ids ≡ length nodes
   pub stand : (n id : ℕ) (tree : plain.Tree) → slice_get ids n ≡ Some id → plain.Has nodes n tree
       → Represents columns vertices id tree
 
--- the vertices of some nodes are read, over which the next node is formed
+-- the nodes before are read, and the next node is formed over them
 pub record IsNext (columns : List ℕ) (vertices : List Vertex) (ids : List ℕ) (node : Plain) : Type 0 where
   pub before : List Plain
   pub read : AreRead columns vertices before ids

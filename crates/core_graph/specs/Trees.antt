@@ -58,7 +58,7 @@ sign_number load_sign = 13
 sign_number not_sign = 14
 sign_number and_sign = 15
 
--- the two labels are one
+-- the two labels are equal
 abbrev pub same_label : Label → Label → Bool
 same_label (sign s) (sign t) = sign_number s == sign_number t
 same_label (in_column c) (in_column d) = c == d
@@ -68,7 +68,7 @@ same_label (until_in i) (until_in j) = same_interval i j
 same_label (since_in i) (since_in j) = same_interval i j
 same_label _ _ = false
 
--- the two trees are one
+-- the two trees are equal
 unfoldable pub same_tree : LabelTree → LabelTree → Bool
 same_tree (leaf l) (leaf m) = same_label l m
 same_tree (one l t) (one m u) = same_label l m && same_tree t u
@@ -85,7 +85,7 @@ add_tree (two l t u) ts = add_new same_tree (two l t u) (add_tree u (add_tree t 
 abbrev pub completed : List LabelTree → List LabelTree
 completed roots = fold (λ ts t. add_tree t ts) [] roots
 
--- the sign is one of a core formula, not of an expression
+-- the sign belongs to a core formula, not to an expression
 abbrev pub is_core_sign : Sign → Bool
 is_core_sign true_sign = true
 is_core_sign load_sign = true
@@ -93,7 +93,7 @@ is_core_sign not_sign = true
 is_core_sign and_sign = true
 is_core_sign _ = false
 
--- the label is one of a core formula, not of an expression
+-- the label belongs to a core formula, not to an expression
 abbrev pub is_core_label : Label → Bool
 is_core_label (sign s) = is_core_sign s
 is_core_label (until_in i) = true
@@ -106,6 +106,6 @@ root (leaf l) = l
 root (one l t) = l
 root (two l t u) = l
 
--- the tree is one of a core formula, not of an expression
+-- the tree is a core formula, not an expression
 abbrev pub is_core_tree : LabelTree → Bool
 is_core_tree t = is_core_label (root t)

@@ -60,7 +60,7 @@ label_of (Since i a b) = since_in i
 abbrev pub is_formula : Vertex → Bool
 is_formula vertex = is_core_label (label_of vertex)
 
--- the tree of vertex n: of a vertex that isn't there nothing is asked
+-- the tree of vertex n; true if there is no such vertex
 abbrev pub tree_at : List LabelTree → ℕ → LabelTree
 tree_at earlier n = slice_index_or earlier n (leaf (sign true_sign))
 
@@ -70,7 +70,7 @@ tree_over earlier l Zero = leaf l
 tree_over earlier l (One a) = one l (tree_at earlier a)
 tree_over earlier l (Two a b) = two l (tree_at earlier a) (tree_at earlier b)
 
--- the tree that a vertex unfolds to, over those of the vertices before it
+-- the tree that a vertex unfolds to, over the trees of the vertices before it
 abbrev pub vertex_tree : List LabelTree → Vertex → LabelTree
 vertex_tree earlier vertex = tree_over earlier (label_of vertex) (operands_of vertex)
 
@@ -95,7 +95,7 @@ pub record IsForest (vertices : List Vertex) : Type 0 where
   pub once : (i j : ℕ) (vertex : Vertex) → slice_get vertices i ≡ Some vertex → slice_get vertices j ≡ Some vertex
       → i ≡ j
 
--- the new list is a forest, and has what the old one has
+-- the new list is a forest, and has each tree that the old list has
 pub record Grows (old new : List Vertex) : Type 0 where
   pub forest : IsForest new
   pub kept : (n : ℕ) (tree : LabelTree) → Has old n tree → Has new n tree

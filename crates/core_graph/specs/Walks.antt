@@ -23,7 +23,7 @@ HasOperands ts (two l t u) = (listed same_tree t ts ≡ true) × (listed same_tr
 pub record HasItsOperands (ts : List LabelTree) : Type 0 where
   pub operands : (t : LabelTree) → listed same_tree t ts ≡ true → HasOperands ts t
 
--- vertices that are complete, in order, and for each vertex whether it is
+-- the complete vertices in order, and a mark for each vertex of the forest
 pub record IsWalk (vertices : List Vertex) (order : List ℕ) (done : List Bool) : Type 0 where
   pub count : length done ≡ length vertices
   pub within : (i n : ℕ) → slice_get order i ≡ Some n → n < length vertices
@@ -55,23 +55,23 @@ pub record IsStack (vertices : List Vertex) (done : List Bool) (stack : List ℕ
   pub descends : Descends (length vertices) stack
   pub waits : (i n : ℕ) → slice_get stack i ≡ Some n → slice_get done n ≡ Some false
 
--- what is complete once all that wait are
+-- the complete trees once all waiting vertices are complete
 unfoldable pub finish : List LabelTree → List LabelTree → List LabelTree
 finish [] ts = ts
 finish (t ∷ above) ts = add_tree t (finish above ts)
 
--- how many vertices there are up to the latest that waits: 0 where none waits
+-- the number of vertices up to the latest that waits; 0 if none waits
 unfoldable pub height : List ℕ → ℕ
 height [] = 0
 height (n ∷ []) = suc n
 height (n ∷ m ∷ ns) = height (m ∷ ns)
 
--- how many vertices aren't complete
+-- the number of vertices that aren't complete
 unfoldable pub open_count : List Bool → ℕ
 open_count [] = 0
 open_count (true ∷ done) = open_count done
 open_count (false ∷ done) = suc (open_count done)
 
--- what is still to be done: for each open vertex, and below the latest that waits
+-- the work that is left: for each open vertex, and below the latest that waits
 abbrev pub work : List Bool → List ℕ → ℕ
 work done stack = open_count done * (length done + 1) + height stack

@@ -14,7 +14,7 @@ use mltl_base::{BetweenOp, CompareOp, Interval, LogicOp, WindowOp};
 use std::alloc::AllocError;
 
 impl Forest {
-    /// A truth.
+    /// Returns the vertex of a constant formula.
     pub fn truth(&mut self, value: bool) -> Result<usize, AllocError>
         requires forest { IsForest self.old }
         ensures grows { OnOk result (Grows self.old self.new) }
@@ -28,7 +28,7 @@ impl Forest {
         }
     }
 
-    /// The negation of `a`, where a double one is taken away.
+    /// Returns the vertex of `!a`. A double negation is dropped.
     pub fn negation(&mut self, a: usize) -> Result<usize, AllocError>
         requires forest { IsForest self.old }
         requires there { IsCoreAt self.old a }
@@ -42,7 +42,7 @@ impl Forest {
         }
     }
 
-    /// `a && b`.
+    /// Returns the vertex of `a && b`.
     pub fn conjunction(&mut self, a: usize, b: usize) -> Result<usize, AllocError>
         requires forest { IsForest self.old }
         requires left { IsCoreAt self.old a }
@@ -54,7 +54,7 @@ impl Forest {
         self.share(Vertex::And(a, b))
     }
 
-    /// `a -> b` as `!(a && !b)`.
+    /// Returns the vertex of `a -> b`, which is `!(a && !b)`.
     pub fn implication(&mut self, a: usize, b: usize) -> Result<usize, AllocError>
         requires forest { IsForest self.old }
         requires left { IsCoreAt self.old a }
@@ -68,7 +68,7 @@ impl Forest {
         self.negation(both)
     }
 
-    /// `a || b` as `!(!a && !b)`.
+    /// Returns the vertex of `a || b`, which is `!(!a && !b)`.
     pub fn disjunction(&mut self, a: usize, b: usize) -> Result<usize, AllocError>
         requires forest { IsForest self.old }
         requires left { IsCoreAt self.old a }
@@ -81,7 +81,7 @@ impl Forest {
         self.implication(not_a, b)
     }
 
-    /// `a <-> b` as `(a -> b) && (b -> a)`.
+    /// Returns the vertex of `a <-> b`, which is `(a -> b) && (b -> a)`.
     pub fn equivalence(&mut self, a: usize, b: usize) -> Result<usize, AllocError>
         requires forest { IsForest self.old }
         requires left { IsCoreAt self.old a }
@@ -96,7 +96,7 @@ impl Forest {
         self.conjunction(forward, backward)
     }
 
-    /// `a U[i] b`.
+    /// Returns the vertex of `a U[i] b`.
     pub fn until(&mut self, i: Interval, a: usize, b: usize) -> Result<usize, AllocError>
         requires forest { IsForest self.old }
         requires left { IsCoreAt self.old a }
@@ -108,7 +108,7 @@ impl Forest {
         self.share(Vertex::Until(i, a, b))
     }
 
-    /// `a S[i] b`.
+    /// Returns the vertex of `a S[i] b`.
     pub fn since(&mut self, i: Interval, a: usize, b: usize) -> Result<usize, AllocError>
         requires forest { IsForest self.old }
         requires left { IsCoreAt self.old a }
@@ -120,7 +120,7 @@ impl Forest {
         self.share(Vertex::Since(i, a, b))
     }
 
-    /// Makes a comparison of integers from the operators of instructions.
+    /// Returns the vertex of a comparison of integers, made of the operators that instructions have.
     pub fn comparison(&mut self, op: CompareOp, a: usize, b: usize) -> Result<usize, AllocError>
         requires forest { IsForest self.old }
         requires left { a < length self.old }
@@ -144,7 +144,7 @@ impl Forest {
         }
     }
 
-    /// An operator that looks at one time.
+    /// Returns the vertex of a connective.
     pub fn connective(&mut self, op: LogicOp, a: usize, b: usize) -> Result<usize, AllocError>
         requires forest { IsForest self.old }
         requires left { IsCoreAt self.old a }
@@ -162,7 +162,7 @@ impl Forest {
         }
     }
 
-    /// A temporal operator of one formula, by until or since with `true`.
+    /// Returns the vertex of a temporal operator of one formula, made by until or since with `true`.
     pub fn window(&mut self, op: WindowOp, i: Interval, a: usize) -> Result<usize, AllocError>
         requires forest { IsForest self.old }
         requires there { IsCoreAt self.old a }
@@ -187,7 +187,7 @@ impl Forest {
         }
     }
 
-    /// A temporal operator between formulas.
+    /// Returns the vertex of a temporal operator of two formulas.
     pub fn between(
         &mut self,
         op: BetweenOp,

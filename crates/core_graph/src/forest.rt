@@ -1,4 +1,4 @@
-//! Vertices in one list, each once, after its operands.
+//! The forest: vertices in one list, each once, after its operands.
 
 ghost use Rattle.std.specs.Prelude.{◌≡◌, ◌<◌, [], length, slice_get, Some, OnOk, IfOk};
 ghost use Rattle.core_graph.specs.Vertices.{OperandsAreBelow, Grows, Has, IsAdded, IsForest, operands_of, vertex_tree, trees};
@@ -25,7 +25,7 @@ impl Model for Forest {
 }
 
 impl Forest {
-    /// No vertices; they are found by hashes of this key.
+    /// Returns a forest without vertices, which finds them by hashes of this key.
     pub fn new(alloc: Global, key: Keyed) -> Self
         ensures { result ≡ [] }
     {
@@ -34,14 +34,14 @@ impl Forest {
         }
     }
 
-    /// The number of vertices.
+    /// Returns the number of vertices.
     pub fn len(&self) -> usize
         ensures { result ≡ length self.now }
     {
         self.vertices.len()
     }
 
-    /// Vertex `n`, counted from 0.
+    /// Returns vertex `n`, counted from 0.
     pub fn get(&self, n: usize) -> Vertex
         requires { n < length self.now }
         ensures { slice_get self.now n ≡ Some result }
@@ -49,7 +49,7 @@ impl Forest {
         self.vertices.as_slice()[n]
     }
 
-    /// The number of a vertex, which is added where it isn't there.
+    /// Returns the number of a vertex, and appends the vertex if it is new.
     pub fn share(&mut self, vertex: Vertex) -> Result<usize, AllocError>
         requires forest { IsForest self.old }
         requires below { OperandsAreBelow (length self.old) (operands_of vertex) }
@@ -59,7 +59,7 @@ impl Forest {
         self.insert(vertex)
     }
 
-    /// The number of a vertex, which goes last where it isn't there.
+    /// Returns the number of a vertex, which becomes the last one if it is new.
     fn insert(&mut self, vertex: Vertex) -> Result<usize, AllocError>
         ensures index { IfOk result (λ n. slice_get self.new n ≡ Some vertex) }
         ensures added { OnOk result (IsAdded self.old self.new vertex) }

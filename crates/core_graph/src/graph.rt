@@ -1,4 +1,4 @@
-//! From a specification that is unfolded to its core graph.
+//! The core graph of a specification that is unfolded.
 
 ghost use Rattle.std.specs.Prelude.{◌≡◌, ◌<◌, Err, length, All, OnOk, IfOk, ℕ, List as Seq};
 ghost use Rattle.mltl_base.specs.Subformulas.{IsGraphOf, IsTensed};
@@ -20,7 +20,7 @@ use mltl_base::{Columns, Graph, Part};
 use std::alloc::{AllocError, Global};
 use thiserror::Error;
 
-/// Why a specification has no core graph.
+/// A fault that leaves a specification without a core graph.
 #[derive(Clone, Copy, Debug, Error)]
 pub enum GraphFault {
     /// A list would have more instructions than the limit.
@@ -40,9 +40,9 @@ impl From<AllocError> for GraphFault {
     }
 }
 
-/// The instructions and the outputs of a specification, over the columns of its signals. No output mixes tenses.
+/// Returns the instructions and the outputs of a specification, over the columns of its signals. No output mixes tenses.
 ///
-/// `TooManyNodes` comes exactly where one of the three lists would have more than `MAX_INSTRUCTIONS` members. The time
+/// Fails with `TooManyNodes` exactly if one of the three lists would have more than `MAX_INSTRUCTIONS` members. The time
 /// is linear in the nodes. Formulas may be as deep as there are nodes.
 pub fn to_core(alloc: Global, spec: &Expanded, columns: &Columns) -> Result<Graph, GraphFault>
     requires nodes { AreSound (length columns.now.of_signal) spec.now.nodes }
@@ -59,7 +59,7 @@ pub fn to_core(alloc: Global, spec: &Expanded, columns: &Columns) -> Result<Grap
     graph_of(alloc, nodes, outs, columns.of_signal.as_slice())
 }
 
-/// The same over nodes, outputs and columns.
+/// Returns the core graph of outputs over nodes and columns, as `to_core` does.
 fn graph_of(
     alloc: Global,
     nodes: &[Plain],
@@ -79,7 +79,7 @@ fn graph_of(
     graph_in(alloc, &forest, outs, &ids)
 }
 
-/// Makes the core graph of outputs whose nodes are in a forest, given the vertex of each node.
+/// Returns the core graph of outputs whose nodes are in a forest. The vertex of node `n` is `ids[n]`.
 fn graph_in(
     alloc: Global,
     forest: &Forest,

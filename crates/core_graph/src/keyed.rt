@@ -22,7 +22,7 @@ impl BuildHasher for Keyed {
 }
 
 impl Keyed {
-    /// The key of the nodes. Vertices are found by any key, so no clause says which this is.
+    /// Returns hashers that have read a hash of the nodes. Vertices are found by any key, so no clause says which this is.
     pub fn by(nodes: &[Plain]) -> Keyed {
         let mut key = DefaultHasher::new();
         for node in nodes {
@@ -34,7 +34,7 @@ impl Keyed {
     }
 }
 
-/// The number of an arithmetic operator among all operators.
+/// Returns the number of an arithmetic operator among all operators.
 fn arith_kind(op: ArithOp) -> u8 {
     match op {
         ArithOp::Add => 6,
@@ -45,7 +45,7 @@ fn arith_kind(op: ArithOp) -> u8 {
     }
 }
 
-/// The number of a comparison among all operators.
+/// Returns the number of a comparison among all operators.
 fn compare_kind(op: CompareOp) -> u8 {
     match op {
         CompareOp::Eq => 11,
@@ -57,7 +57,7 @@ fn compare_kind(op: CompareOp) -> u8 {
     }
 }
 
-/// The number of a connective among all operators.
+/// Returns the number of a connective among all operators.
 fn logic_kind(op: LogicOp) -> u8 {
     match op {
         LogicOp::And => 17,
@@ -67,7 +67,7 @@ fn logic_kind(op: LogicOp) -> u8 {
     }
 }
 
-/// The number of a temporal operator of one operand among all operators.
+/// Returns the number of a temporal operator of one operand among all operators.
 fn window_kind(op: WindowOp) -> u8 {
     match op {
         WindowOp::F => 21,
@@ -77,7 +77,7 @@ fn window_kind(op: WindowOp) -> u8 {
     }
 }
 
-/// The number of a temporal operator of two operands among all operators.
+/// Returns the number of a temporal operator of two operands among all operators.
 fn between_kind(op: BetweenOp) -> u8 {
     match op {
         BetweenOp::U => 25,
@@ -86,7 +86,7 @@ fn between_kind(op: BetweenOp) -> u8 {
     }
 }
 
-/// Reads a node: its operator, the numbers of a text, the places of signals and operands, and bounds.
+/// Feeds a node to the key: its operator, numbers, signals, operands and bounds.
 fn feed(key: &mut DefaultHasher, node: Plain) {
     match node {
         Plain::Truth(value) => (0u8, value).hash(key),

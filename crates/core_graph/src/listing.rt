@@ -21,7 +21,7 @@ pub struct Listing {
     pub places: Vec<u32>,
 }
 
-/// Whether a part is walked from the outputs of an engine.
+/// Returns true if a part is walked from the outputs of an engine.
 fn asks(part: Part, engine: Engine) -> bool
     ensures { result ≡ asks part engine }
 {
@@ -32,7 +32,7 @@ fn asks(part: Part, engine: Engine) -> bool
     }
 }
 
-/// Whether a vertex becomes an instruction of a part.
+/// Returns true if a vertex becomes an instruction of a part.
 pub fn is_in(part: Part, vertex: Vertex) -> bool
     ensures { result ≡ is_vertex_in part vertex }
 {
@@ -42,7 +42,7 @@ pub fn is_in(part: Part, vertex: Vertex) -> bool
     }
 }
 
-/// The vertices that the walk of a part begins with: outputs in order, in a contract the left formula first.
+/// Returns the vertices that the walk of a part begins with: outputs in order, in a contract the left formula first.
 fn roots(
     alloc: Global,
     outs: &[PlainOut],
@@ -59,7 +59,7 @@ fn roots(
     Ok(roots)
 }
 
-/// Adds the vertices of an output.
+/// Appends the vertices of an output, if its engine asks for the part.
 fn add_roots(
     roots: &mut Vec<usize>,
     out: &PlainOut,
@@ -85,7 +85,9 @@ fn add_roots(
     Ok(())
 }
 
-/// The vertices of a part at and below those that the outputs name, in order of first completion.
+/// Returns the vertices of a part that outputs reach, in order of first completion.
+///
+/// Fails with `TooManyNodes` if they are more than `MAX_INSTRUCTIONS`.
 pub fn list(
     alloc: Global,
     forest: &Forest,
@@ -114,7 +116,7 @@ pub fn list(
     })
 }
 
-/// The vertices of a part among others, in their order.
+/// Returns the vertices that belong to a part, in their order.
 fn select(
     alloc: Global,
     forest: &Forest,
@@ -133,7 +135,7 @@ fn select(
     Ok(ids)
 }
 
-/// Puts a vertex after the others if it is of the part.
+/// Appends a vertex if it belongs to the part.
 fn keep(ids: &mut Vec<usize>, forest: &Forest, id: usize, part: Part) -> Result<(), AllocError>
     requires forest { IsForest forest.now }
     requires there { id < length forest.now }
@@ -147,7 +149,7 @@ fn keep(ids: &mut Vec<usize>, forest: &Forest, id: usize, part: Part) -> Result<
     Ok(())
 }
 
-/// For each of `count` vertices its place among `ids`.
+/// Returns for each of `count` vertices its index in `ids`, or 0.
 fn places(alloc: Global, ids: &[usize], count: usize) -> Result<Vec<u32>, AllocError>
     requires there { All (λ n. n < count) ids.now }
     requires once { AreOnce ids.now }

@@ -11,7 +11,7 @@ use crate::vertex::Vertex;
 use c2po_ast::Plain;
 use std::alloc::{AllocError, Global};
 
-/// The vertices of all nodes, in order.
+/// Adds all nodes to the forest, and returns the number of each node's vertex, in order.
 pub fn read(
     alloc: Global,
     forest: &mut Forest,
@@ -30,7 +30,7 @@ pub fn read(
     Ok(ids)
 }
 
-/// The vertex of a node, given those of the nodes before it.
+/// Adds a node to the forest, and returns its vertex. The vertex of an earlier node `n` is `ids[n]`.
 fn read_node(
     forest: &mut Forest,
     ids: &[usize],

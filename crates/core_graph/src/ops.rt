@@ -11,7 +11,7 @@ use c2po_ast::PlainOut;
 use mltl_base::{ArithOp, BzOp, Engine, FtOp, List, Out, PtOp};
 use std::alloc::{AllocError, Global};
 
-/// The instructions of the Booleanizer.
+/// Returns the instructions of the Booleanizer.
 pub fn bz_ops(alloc: Global, forest: &Forest, bz: &Listing) -> Result<List<BzOp>, AllocError>
     requires forest { IsForest forest.now }
     requires placed { length bz.now.places.items ≡ length forest.now }
@@ -26,7 +26,7 @@ pub fn bz_ops(alloc: Global, forest: &Forest, bz: &Listing) -> Result<List<BzOp>
     Ok(ops)
 }
 
-/// The instructions of the future-time engine, which loads the Booleanizer's.
+/// Returns the instructions of the future-time engine, which loads the Booleanizer's truths.
 pub fn ft_ops(
     alloc: Global,
     forest: &Forest,
@@ -48,7 +48,7 @@ pub fn ft_ops(
     Ok(ops)
 }
 
-/// The instructions of the past-time engine, which loads the Booleanizer's.
+/// Returns the instructions of the past-time engine, which loads the Booleanizer's truths.
 pub fn pt_ops(
     alloc: Global,
     forest: &Forest,
@@ -70,7 +70,7 @@ pub fn pt_ops(
     Ok(ops)
 }
 
-/// The instruction of an expression. No core formula is listed for the Booleanizer.
+/// Returns the instruction of an expression. No core formula is listed for the Booleanizer.
 fn bz_op(vertex: Vertex, places: &[u32]) -> BzOp
     requires { OperandsAreBelow (length places.now) (operands_of vertex) }
     ensures { result ≡ bz_op_of places.now vertex }
@@ -100,7 +100,7 @@ fn arith_op(op: ArithOp, a: u32, b: u32) -> BzOp
     }
 }
 
-/// The instruction of a core formula of the future. No other vertex is listed for the engine.
+/// Returns the instruction of a core formula of the future. No other vertex is listed for the engine.
 fn ft_op(vertex: Vertex, loads: &[u32], places: &[u32]) -> FtOp
     requires loads { OperandsAreBelow (length loads.now) (operands_of vertex) }
     requires places { OperandsAreBelow (length places.now) (operands_of vertex) }
@@ -115,7 +115,7 @@ fn ft_op(vertex: Vertex, loads: &[u32], places: &[u32]) -> FtOp
     }
 }
 
-/// The instruction of a core formula of the past. No other vertex is listed for the engine.
+/// Returns the instruction of a core formula of the past. No other vertex is listed for the engine.
 fn pt_op(vertex: Vertex, loads: &[u32], places: &[u32]) -> PtOp
     requires loads { OperandsAreBelow (length loads.now) (operands_of vertex) }
     requires places { OperandsAreBelow (length places.now) (operands_of vertex) }
@@ -130,7 +130,7 @@ fn pt_op(vertex: Vertex, loads: &[u32], places: &[u32]) -> PtOp
     }
 }
 
-/// The outputs, by the places of their formulas among the instructions of their engine.
+/// Returns the outputs, with their formulas as indices of instructions of their engine.
 pub fn numbered_outs(
     alloc: Global,
     outs: &[PlainOut],
@@ -151,7 +151,7 @@ pub fn numbered_outs(
     Ok(new)
 }
 
-/// An output by the places of its formulas.
+/// Returns an output with its formulas as indices of instructions.
 fn numbered(out: &PlainOut, ids: &[usize], ft: &[u32], pt: &[u32]) -> Out
     requires named { NamesNodes (length ids.now) out.now }
     requires ft { All (λ n. n < length ft.now) ids.now }
@@ -171,7 +171,7 @@ fn numbered(out: &PlainOut, ids: &[usize], ft: &[u32], pt: &[u32]) -> Out
     }
 }
 
-/// The places of an engine's instructions.
+/// Returns the indices of an engine's instructions by vertex.
 fn places_for<'a>(engine: Engine, ft: &'a [u32], pt: &'a [u32]) -> &'a [u32]
     ensures { result.now ≡ places_for engine ft.now pt.now }
 {

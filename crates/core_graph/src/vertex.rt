@@ -34,7 +34,7 @@ pub enum Operands {
 }
 
 impl Vertex {
-    /// The operands from left to right.
+    /// Returns the operands from left to right.
     pub fn operands(self) -> Operands
         ensures { result ≡ operands_of self }
     {
@@ -49,7 +49,7 @@ impl Vertex {
         }
     }
 
-    /// Whether the vertex is a core formula, not an expression.
+    /// Returns true if the vertex is a core formula, not an expression.
     pub fn is_formula(self) -> bool
         ensures { result ≡ is_formula self }
     {

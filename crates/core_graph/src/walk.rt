@@ -9,14 +9,14 @@ use crate::forest::Forest;
 use crate::vertex::Operands;
 use std::alloc::{AllocError, Global};
 
-/// The vertices that are complete, in order, and for each vertex of the forest whether it is complete.
+/// A walk under way: the complete vertices in order, and a mark for each vertex of the forest.
 #[derive(Drop)]
 pub struct Walk {
     pub order: Vec<usize>,
     pub done: Vec<bool>,
 }
 
-/// The vertices at and below the roots, in order of first completion.
+/// Returns the vertices at and below the roots, in order of first completion.
 pub fn completion(alloc: Global, forest: &Forest, roots: &[usize]) -> Result<Vec<usize>, AllocError>
     requires forest { IsForest forest.now }
     requires there { All (λ n. n < length forest.now) roots.now }
@@ -34,7 +34,7 @@ pub fn completion(alloc: Global, forest: &Forest, roots: &[usize]) -> Result<Vec
     Ok(walk.order)
 }
 
-/// The first operand that isn't complete.
+/// Returns the first operand that isn't complete.
 fn first_open(operands: Operands, done: &[bool]) -> Option<usize>
     requires { OperandsAreBelow (length done.now) operands }
     ensures { MatchOption result (AreDone done.now operands) (IsFirstIncomplete done.now operands) }
@@ -53,7 +53,7 @@ fn first_open(operands: Operands, done: &[bool]) -> Option<usize>
 }
 
 impl Walk {
-    /// Completes a root and what is open below it.
+    /// Completes a root and each open vertex below it.
     fn visit(&mut self, alloc: Global, forest: &Forest, root: usize) -> Result<(), AllocError>
         requires forest { IsForest forest.now }
         requires walk { IsWalk forest.now self.old.order.items self.old.done.items }
@@ -73,7 +73,7 @@ impl Walk {
         Ok(())
     }
 
-    /// Goes on with the latest vertex that waits: to an operand, or over it where all are complete.
+    /// Visits an open operand of the latest vertex that waits, or completes that vertex if it has none.
     fn step(
         &mut self,
         forest: &Forest,
