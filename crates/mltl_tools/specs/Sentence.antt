@@ -1,5 +1,5 @@
--- One sentence through both programs: what was compiled from a text, and then watched, reports the text's own
--- formulas.
+-- One sentence about both programs: if a text was compiled, and its program was run over a trace, the reports are of the
+-- text's own formulas.
 
 use Rattle.std.specs.Prelude.{◌≡◌, ℕ, ◌<◌, ◌≤◌, true, false, Option, Some, Ok, List, [], ◌∷◌, ◌++◌, All, flat_map}
 use Rattle.std.specs.Prelude.{length, map, slice_get, take}
@@ -39,13 +39,12 @@ use Rattle.r2u2_cli.specs.ProgramBy.{header_in, program_over}
 use Rattle.r2u2_cli.specs.Taken.{lines_in, trace_of}
 use Rattle.r2u2_cli.specs.Run.{IsRun}
 
--- the lines of what was read at a place
+-- the lines that were read at a place
 abbrev pub lines_at : Place → List Event → List (List ℕ)
 lines_at p events = lines_of (ended_from false p events) (taken p events)
 
--- The log of a run of c2po that ended with success: its arguments requested the program of a specification, and not
--- its table. It read this text, wrote these bytes, and this is the first line of the header file, where the arguments
--- name one.
+-- The log of a run of c2po that ended with success: its arguments requested the program of a specification, and not its
+-- table. It read this text, wrote these bytes, and this is the first line of the header file, if the arguments name one.
 pub record HasCompiled (words : List (List ℕ)) (text : List ℕ) (header : Option (List ℕ)) (bytes : List ℕ)
     (events : List Event) : Type 0 where
   pub asked : CompileAsked
@@ -58,8 +57,8 @@ pub record HasCompiled (words : List (List ℕ)) (text : List ℕ) (header : Opt
   pub under : asked_header asked.header (lines_at at.Header events) ≡ header
   pub wrote : given at.Out events ≡ bytes
 
--- The log of a run of r2u2 that ended with success: its arguments requested this run over a program file and a trace,
--- and the file had these bytes.
+-- The log of a run of r2u2 that ended with success: its arguments requested this run over a program file and a trace, and
+-- the file had these bytes.
 pub record HasWatched (words : List (List ℕ)) (asked : RunAsked) (bytes : List ℕ) (events : List Event) : Type 0 where
   pub kept : Option State
   pub before : Place → ℕ
@@ -78,9 +77,9 @@ CountUp k told_so =
 abbrev pub in_turn : List (List Report) → List Report
 in_turn parts = flat_map (λ part. part) parts
 
--- The reports come in parts, one for each row, which are the same parts for all outputs. The first n of them report just
--- the words that are known of each output after the first n rows, and within a part no two neighbours among the
--- reports of an output have one word.
+-- The reports come in parts, one for each row, which are the same parts for all outputs. The first n parts report just the
+-- words that are known of each output after the first n rows, and within a part no two neighbours among the reports of an
+-- output have one word.
 pub record AreLongestByRow (outs : List Output) (told_so : List Report) (rows : List Row) : Type 0 where
   pub parts : List (List Report)
   pub one_each : length parts ≡ length rows
@@ -99,11 +98,11 @@ abbrev pub AreInStyle : Style → List Output → List Report → List Row → T
 AreInStyle Each outs told_so rows = (k : ℕ) → k < length outs → CountUp k told_so
 AreInStyle Runs outs told_so rows = AreLongestByRow outs told_so rows
 
--- What is out reports the formulas of a text over the columns that a program stores for its signals, after these rows.
--- It is the lines of reports, under the names of the text's outputs and of no others. Of each output they report each
--- time once and in order, in the requested style, with a word that is the meaning of its time whatever rows follow; and
--- no time comes later than the output's worst-case delay. The outputs of the program, which may be in simplified form,
--- are as many, and decide which words a row brings.
+-- The output reports the formulas of a text over the columns that a program stores for its signals, after these rows. It is
+-- the lines of reports, under the names of the text's outputs and of no others. Of each output they report each time once
+-- and in order, in the requested style, with a word that is the meaning of its time whatever rows follow; and no time comes
+-- later than the output's worst-case delay. The program, which may be in simplified form, has as many outputs, and they
+-- decide which words a row brings.
 pub record ReportsFormulas (style : Style) (text : List ℕ) (program : Program) (rows : List Row) (out : List ℕ)
     : Type 0 where
   pub told_so : List Report
@@ -114,9 +113,9 @@ pub record ReportsFormulas (style : Style) (text : List ℕ) (program : Program)
   pub words : (k : ℕ) (o : Output) → slice_get (plain_outputs (stored_columns program) (outputs_in text)) k ≡ Some o
       → TellWords told_so k o rows
 
--- A run over a program file reports a text: its rows are clean, its lines report the text's formulas over all rows,
--- and before each read of the trace they reported them over the rows of what was read. The signals are in the columns
--- of the trace's header; without one in those of the compilation: of its header, or of the order of declaration.
+-- A run over a program file reports a text: its rows are clean, its lines report the text's formulas over all rows, and
+-- before each read of the trace they reported them over the rows that were read. The signals are in the columns of the
+-- trace's header; without one in the columns of the compilation: of its header, or of the order of declaration.
 pub record ReportsText (text : List ℕ) (header : Option (List ℕ)) (asked : RunAsked) (bytes : List ℕ)
     (events : List Event) : Type 0 where
   pub program : Program

@@ -1,4 +1,4 @@
-//! What compiling and then watching reports: each law is the contract of a function with an empty body.
+//! Laws of compiling and then watching. Each law is the contract of a function with an empty body.
 
 ghost use Rattle.std.specs.Prelude.{◌≡◌, ◌∷◌, [], List as Seq, Option as Maybe, ℕ};
 ghost use Rattle.mltl_base.specs.declared.report.Word.{Word as Told};
@@ -8,8 +8,9 @@ ghost use Rattle.tool_io.specs.Log.{Event};
 ghost use Rattle.tool_words.specs.R2u2Words.{RunAsked};
 ghost use Rattle.mltl_tools.specs.Sentence.{AreLongestByRow, HasCompiled, HasWatched, ReportsText, told_one_by_one};
 
-/// A text that [`c2po_main`](crate::c2po_main) compiled, and whose program [`r2u2_main`](crate::r2u2_main) ran over a
-/// trace, both with success: the lines report the text's own formulas over the rows of the trace.
+/// If [`c2po_main`](crate::c2po_main) compiled a text, and [`r2u2_main`](crate::r2u2_main) ran its
+/// program over a trace, both with success, the lines report the text's own formulas over the rows
+/// of the trace.
 ///
 /// Each time is reported once and in order, with a word that is settled whatever rows follow, and no later than its
 /// delay. The program may be in simplified form. Nothing but its bytes passes from the first run to the second.

@@ -1,7 +1,7 @@
 //! The public calls of the product under one name.
 //!
-//! [`c2po_main`] is the top call of the compiler, and [`r2u2_main`] that of the monitor. What the one writes and the other
-//! runs is joined by the law [`compiled_and_watched`].
+//! [`c2po_main`] is the top call of the compiler, and [`r2u2_main`] the top call of the monitor.
+//! The law [`compiled_and_watched`] joins the output of the compiler with the run of the monitor.
 #![tactic(auto)]
 
 mod laws;
