@@ -1,4 +1,4 @@
--- What the program may say of expressions, and Kleene values over lists of known verdicts.
+-- Expressions that the program can compute, and Kleene values over lists of known verdicts.
 -- A reader of the contracts needs this file.
 
 use Rattle.std.specs.Prelude.{◌≢◌, Bool, true, false, List, ℤ, pos, neg_ℤ, ◌+ℤ◌, ◌-ℤ◌, ◌*ℤ◌, int_div, int_rem}
@@ -36,7 +36,7 @@ HasResult arith_op.TheVariants.Mul x y = FitsSigned w64 (x *ℤ y)
 HasResult arith_op.TheVariants.Div x y = (y ≢ pos 0) × FitsSigned w64 (int_div x y)
 HasResult arith_op.TheVariants.Rem x y = y ≢ pos 0
 
--- a comparison of two numbers
+-- the comparison of two numbers is true
 abbrev pub comparison_holds : compare_op.CompareOp → ℤ → ℤ → Bool
 comparison_holds compare_op.TheVariants.Eq x y = int_eq x y
 comparison_holds compare_op.TheVariants.Ne x y = not (int_eq x y)
@@ -76,7 +76,7 @@ abbrev pub known_verdict : Bool → List Bool → Known
 known_verdict true vs t = k_not (slice_get vs t)
 known_verdict false vs t = slice_get vs t
 
--- the Kleene value of an operator without time, over what is known of its operands
+-- the Kleene value of an operator without time, over the known values of its operands
 abbrev pub k_logic : logic_op.LogicOp → Known → Known → Known
 k_logic logic_op.TheVariants.And p q = k_conjunction p q
 k_logic logic_op.TheVariants.Or p q = k_disjunction p q
@@ -96,7 +96,7 @@ k_between between_op.TheVariants.U i p q = k_until i p q
 k_between between_op.TheVariants.R i p q = k_release i p q
 k_between between_op.TheVariants.S i p q = k_since i p q
 
--- the Kleene value of any operator with operands; one with a single operand leaves the right one aside
+-- the Kleene value of any operator; an operator with a single operand ignores the right one
 abbrev pub k_operator : operator.Operator → Known → Known → Known
 k_operator operator.TheVariants.Not p q = k_negation p
 k_operator (operator.TheVariants.Logic op) p q = k_logic op p q
@@ -112,6 +112,6 @@ abbrev pub ComputesOutput : List Row → Output → Type 0
 ComputesOutput rows (formula p) = ComputesAll rows p
 ComputesOutput rows (contract p q) = ComputesAll rows p × ComputesAll rows q
 
--- the same on the rows before, and on all rows
+-- each atom of an output's formulas can be computed on each row of both lists
 abbrev pub ComputesBoth : List Row → List Row → Output → Type 0
 ComputesBoth before now o = ComputesOutput before o × ComputesOutput now o

@@ -79,7 +79,7 @@ as_formula (node.TheVariants.Logic' op p a q b) = logic op (as_formula a) (as_fo
 as_formula (node.TheVariants.Window' op i p a) = window_formula op i (as_formula a)
 as_formula (node.TheVariants.Between' op i p a q b) = between op i (as_formula a) (as_formula b)
 
--- the output that one tree or two represent
+-- the output that one or two trees represent
 abbrev pub as_output : out.Output → told.Output
 as_output (out.TheVariants.Formula p) = told.formula (as_formula p)
 as_output (out.TheVariants.Contract p q) = told.contract (as_formula p) (as_formula q)

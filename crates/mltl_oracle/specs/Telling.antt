@@ -1,4 +1,4 @@
--- What one more row brings, over the rows before it and all rows.
+-- The reports that one more row brings, over the rows before it and all rows.
 -- Only contracts of inner functions cite it: it is the proof's own.
 
 use Rattle.std.specs.Prelude.{ℕ, suc, Bool, true, not, List, [], ◌∷◌, ◌++◌, length, drop}
@@ -9,7 +9,7 @@ use Rattle.mltl_base.specs.declared.report.Report.{Report}
 use Rattle.mltl_base.specs.Atoms.{Row}
 use Rattle.mltl_base.specs.Reports.{Output, words, goes_on, of_words}
 
--- a word has a separate report: each one, or the last of a run
+-- a word has a report of its own: each word, or the last word of a run
 abbrev pub is_told : Style → Word → List Word → Bool
 is_told Each w ws = true
 is_told Runs w ws = not (goes_on w ws)

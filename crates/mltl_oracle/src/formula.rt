@@ -29,7 +29,7 @@ pub enum Formula {
     Between(BetweenOp, Interval, Box<Formula>, Box<Formula>),
 }
 
-/// What is reported: a formula, or an assume-guarantee contract of two.
+/// An output: a formula, or an assume-guarantee contract of two formulas.
 #[derive(Drop)]
 pub enum Output {
     Formula(Formula),

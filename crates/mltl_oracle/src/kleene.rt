@@ -3,7 +3,7 @@
 ghost use Rattle.mltl_base.specs.Kleene.{k_and, k_implies, k_not, k_or};
 ghost use Rattle.std.specs.Prelude.{◌≡◌};
 
-/// The negation keeps what is unknown.
+/// Returns the negation, which keeps the unknown value.
 #[tactic(auto, unfolding(mltl_base::specs::Kleene::k_not))]
 pub fn not(x: Option<bool>) -> Option<bool>
     ensures { result ≡ k_not x }
@@ -14,7 +14,7 @@ pub fn not(x: Option<bool>) -> Option<bool>
     }
 }
 
-/// False and unknown is false; true and unknown is unknown.
+/// Returns the conjunction: false and unknown is false; true and unknown is unknown.
 #[tactic(auto, unfolding(mltl_base::specs::Kleene::k_and))]
 pub fn and(x: Option<bool>, y: Option<bool>) -> Option<bool>
     ensures { result ≡ k_and x y }
@@ -27,7 +27,7 @@ pub fn and(x: Option<bool>, y: Option<bool>) -> Option<bool>
     }
 }
 
-/// The disjunction, by negation and conjunction.
+/// Returns the disjunction, by negation and conjunction.
 #[tactic(auto, unfolding(mltl_base::specs::Kleene::k_or))]
 pub fn or(x: Option<bool>, y: Option<bool>) -> Option<bool>
     ensures { result ≡ k_or x y }
@@ -35,7 +35,7 @@ pub fn or(x: Option<bool>, y: Option<bool>) -> Option<bool>
     not(and(not(x), not(y)))
 }
 
-/// The implication, by negation and conjunction.
+/// Returns the implication, by negation and conjunction.
 pub fn implies(x: Option<bool>, y: Option<bool>) -> Option<bool>
     ensures { result ≡ k_implies x y }
 {

@@ -1,4 +1,5 @@
-//! A plain and slow program that computes what the definitions of meaning say: known verdicts, words and reports.
+//! A plain and slow program that computes the definitions of meaning: known verdicts, words and
+//! reports.
 //!
 //! It keeps all rows and makes every list from scratch, so it serves to check the engines and for nothing else.
 #![tactic(auto)]

@@ -9,7 +9,7 @@ ghost use Rattle.std.specs.Prelude.{◌≡◌, suc, ◌+◌, ◌^◌, ◌<◌, s
 use crate::kleene::{and, not, or};
 use mltl_base::Interval;
 
-/// What is known at time `t + k`, negated where `turned`.
+/// Returns the known verdict at time `t + k`, negated if `turned`.
 pub fn seen(turned: bool, ps: &[bool], t: usize, k: usize) -> Option<bool>
     ensures { result ≡ seen_at turned ps.now (t + k) }
 {
@@ -17,7 +17,7 @@ pub fn seen(turned: bool, ps: &[bool], t: usize, k: usize) -> Option<bool>
     if turned { not(known) } else { known }
 }
 
-/// What is known at time `t + k`.
+/// Returns the known verdict at time `t + k`.
 fn later(ps: &[bool], t: usize, k: usize) -> Option<bool>
     ensures { result ≡ slice_get ps.now (t + k) }
 {
@@ -28,21 +28,21 @@ fn later(ps: &[bool], t: usize, k: usize) -> Option<bool>
     }
 }
 
-/// What is known at a time.
+/// Returns the known verdict at a time.
 pub fn known(ps: &[bool], t: usize) -> Option<bool>
     ensures { result ≡ slice_get ps.now t }
 {
     if t < ps.len() { Some(ps[t]) } else { None }
 }
 
-/// Whether a number of rows lies in the interval.
+/// Returns true if a number of rows lies in the interval.
 pub fn within(i: Interval, d: usize) -> bool
     ensures { result ≡ lies_within i d }
 {
     i.lo as usize <= d && d <= i.hi as usize
 }
 
-/// Whether all times from `t + lo` on and before `t + end` are true.
+/// Returns true if all times from `t + lo` on and before `t + end` are true.
 fn every_before(turned: bool, ps: &[bool], t: usize, lo: usize, end: usize) -> Option<bool>
     ensures { result ≡ k_every_in lo end (λ j. seen_at turned ps.now (t + j)) }
 {
@@ -53,7 +53,7 @@ fn every_before(turned: bool, ps: &[bool], t: usize, lo: usize, end: usize) -> O
     every
 }
 
-/// Whether all times after `m` and up to `t` are true.
+/// Returns true if all times after `m` and up to `t` are true.
 fn every_after(ps: &[bool], m: usize, t: usize) -> Option<bool>
     requires room { t + 1 < 2 ^ 64 }
     requires order { m < t + 1 }
@@ -66,7 +66,8 @@ fn every_after(ps: &[bool], m: usize, t: usize) -> Option<bool>
     every
 }
 
-/// Until at time `t`: the range of the left operand starts at the interval's lower end.
+/// Returns the value of until at time `t`. The range of the left operand starts at the interval's
+/// lower end.
 pub fn until(turned: bool, i: Interval, ps: &[bool], qs: &[bool], t: usize) -> Option<bool>
     ensures { result ≡ k_until i (seen_at turned ps.now) (seen_at turned qs.now) t }
 {
@@ -81,7 +82,7 @@ pub fn until(turned: bool, i: Interval, ps: &[bool], qs: &[bool], t: usize) -> O
     some
 }
 
-/// Since at time `t`.
+/// Returns the value of since at time `t`.
 pub fn since(i: Interval, ps: &[bool], qs: &[bool], t: usize) -> Option<bool>
     requires room { t + 1 < 2 ^ 64 }
     ensures { result ≡ k_since i (slice_get ps.now) (slice_get qs.now) t }
@@ -99,7 +100,7 @@ pub fn since(i: Interval, ps: &[bool], qs: &[bool], t: usize) -> Option<bool>
     some
 }
 
-/// Finally at time `t`.
+/// Returns the value of finally at time `t`.
 pub fn finally(i: Interval, ps: &[bool], t: usize) -> Option<bool>
     ensures { result ≡ k_finally i (slice_get ps.now) t }
 {
@@ -110,7 +111,7 @@ pub fn finally(i: Interval, ps: &[bool], t: usize) -> Option<bool>
     some
 }
 
-/// Globally at time `t`.
+/// Returns the value of globally at time `t`.
 pub fn globally(i: Interval, ps: &[bool], t: usize) -> Option<bool>
     ensures { result ≡ k_globally i (slice_get ps.now) t }
 {
@@ -121,7 +122,7 @@ pub fn globally(i: Interval, ps: &[bool], t: usize) -> Option<bool>
     every
 }
 
-/// Once at time `t`: there are no times before 0.
+/// Returns the value of once at time `t`. There are no times before 0.
 pub fn once(i: Interval, ps: &[bool], t: usize) -> Option<bool>
     requires room { t + 1 < 2 ^ 64 }
     ensures { result ≡ k_once i (slice_get ps.now) t }
@@ -133,7 +134,7 @@ pub fn once(i: Interval, ps: &[bool], t: usize) -> Option<bool>
     some
 }
 
-/// Historically at time `t`.
+/// Returns the value of historically at time `t`.
 pub fn historically(i: Interval, ps: &[bool], t: usize) -> Option<bool>
     requires room { t + 1 < 2 ^ 64 }
     ensures { result ≡ k_historically i (slice_get ps.now) t }

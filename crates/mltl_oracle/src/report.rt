@@ -15,7 +15,7 @@ use crate::verdict::{Fault, verdicts};
 use mltl_base::{List, Report, Style, Word};
 use std::alloc::Global;
 
-/// The words of an output that are known after the rows.
+/// Returns the words of an output that are known after the rows.
 pub fn words(alloc: Global, rows: &[List<i64>], output: &Output) -> Result<List<Word>, Fault>
     ensures known { IfOk result (λ ws. ws ≡ words_of rows.now (as_output output.now)) }
     ensures cause { ComputesOutput rows.now (as_output output.now) →
@@ -34,7 +34,7 @@ pub fn words(alloc: Global, rows: &[List<i64>], output: &Output) -> Result<List<
     }
 }
 
-/// The reports of all rows, row by row and in a row output by output.
+/// Returns the reports of all rows, row by row, and output by output in each row.
 pub fn reports(
     alloc: Global,
     style: Style,
@@ -92,7 +92,7 @@ fn tell(
     tell_slice(style, out, ws.as_slice(), from, told)
 }
 
-/// The same over slices.
+/// Appends the reports of the words from a time on, over slices.
 fn tell_slice(
     style: Style,
     out: u32,
@@ -118,7 +118,7 @@ fn tell_slice(
     Ok(())
 }
 
-/// Appends a report that is due.
+/// Appends a report if it is due.
 fn put_if(due: bool, report: Report, told: &mut List<Report>) -> Result<(), Fault>
     ensures told { OnOk result (told.new ≡ (if due then told.old ++ report ∷ [] else told.old)) }
     ensures cause { IfErr result (λ why. why ≡ NoMemory) }
@@ -130,7 +130,8 @@ fn put_if(due: bool, report: Report, told: &mut List<Report>) -> Result<(), Faul
     Ok(())
 }
 
-/// Whether the word at a time is reported: with `Runs` only the last one of a run of one word is.
+/// Returns true if the word at a time is reported: with `Runs` only the last word of a run of one
+/// word is.
 fn ends(style: Style, ws: &[Word], t: usize) -> bool
     requires place { t < length ws.now }
     ensures { (w : Said) →
@@ -142,7 +143,7 @@ fn ends(style: Style, ws: &[Word], t: usize) -> bool
     }
 }
 
-/// Whether the word at a time is also the word at the next time.
+/// Returns true if the word at a time is also the word at the next time.
 fn continues(ws: &[Word], t: usize) -> bool
     requires place { t < length ws.now }
     ensures { (w : Said) → result ≡ goes_on (slice_index_or ws.now t w) (drop (suc t) ws.now) }
@@ -155,7 +156,7 @@ fn continues(ws: &[Word], t: usize) -> bool
     false
 }
 
-/// Whether two words are one.
+/// Returns true if two words are equal.
 fn same(v: Word, w: Word) -> bool
     ensures { result ≡ same_word v w }
 {
@@ -169,7 +170,7 @@ fn same(v: Word, w: Word) -> bool
     }
 }
 
-/// The words of verdicts.
+/// Returns the words of verdicts.
 fn named(alloc: Global, vs: &List<bool>) -> Result<List<Word>, Fault>
     ensures known { IfOk result (λ ws. ws ≡ map word_of vs.now) }
     ensures cause { IfErr result (λ why. why ≡ NoMemory) }
@@ -177,7 +178,7 @@ fn named(alloc: Global, vs: &List<bool>) -> Result<List<Word>, Fault>
     named_slice(alloc, vs.as_slice())
 }
 
-/// The same over slices.
+/// Returns the words of verdicts, over slices.
 fn named_slice(alloc: Global, vs: &[bool]) -> Result<List<Word>, Fault>
     ensures known { IfOk result (λ ws. ws ≡ map word_of vs.now) }
     ensures cause { IfErr result (λ why. why ≡ NoMemory) }
@@ -190,7 +191,8 @@ fn named_slice(alloc: Global, vs: &[bool]) -> Result<List<Word>, Fault>
     Ok(ws)
 }
 
-/// The status words over known verdicts of a contract's formulas, up to the first time without one.
+/// Returns the status words over known verdicts of a contract's formulas, up to the first time
+/// without a word.
 fn statuses(alloc: Global, ps: &List<bool>, qs: &List<bool>, n: usize) -> Result<List<Word>, Fault>
     ensures known { IfOk result
         (λ ws. ws ≡ known_front (λ t. status (slice_get ps.now t) (slice_get qs.now t)) n) }
@@ -199,7 +201,7 @@ fn statuses(alloc: Global, ps: &List<bool>, qs: &List<bool>, n: usize) -> Result
     statuses_of(alloc, ps.as_slice(), qs.as_slice(), n)
 }
 
-/// The same over slices.
+/// Returns the status words over known verdicts of a contract's formulas, over slices.
 fn statuses_of(alloc: Global, ps: &[bool], qs: &[bool], n: usize) -> Result<List<Word>, Fault>
     ensures known { IfOk result
         (λ ws. ws ≡ known_front (λ t. status (slice_get ps.now t) (slice_get qs.now t)) n) }
@@ -215,7 +217,7 @@ fn statuses_of(alloc: Global, ps: &[bool], qs: &[bool], n: usize) -> Result<List
     Ok(ws)
 }
 
-/// The status of a contract, from what is known of its two formulas.
+/// Returns the status of a contract, from the known verdicts of its two formulas.
 fn status_of(p: Option<bool>, q: Option<bool>) -> Option<Word>
     ensures { result ≡ status p q }
 {

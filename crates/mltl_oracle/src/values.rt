@@ -9,7 +9,8 @@ ghost use Rattle.mltl_base.specs.declared.operators.ArithOp.TheVariants.{Rem as 
 use crate::{Atom, Term};
 use mltl_base::{ArithOp, CompareOp};
 
-/// The value of an expression on a row; `None` where a part of it leaves 64 bits or a divisor is 0.
+/// Returns the value of an expression on a row, or `None` if a part of it leaves 64 bits or a
+/// divisor is 0.
 #[tactic(auto, unfolding(mltl_base::specs::Atoms::value))]
 pub fn value(e: &Term, row: &[i64]) -> Option<i64>
     ensures value { IfSome result (λ v. v ≡ value_on (as_term e.now) row.now) }
@@ -29,7 +30,7 @@ pub fn value(e: &Term, row: &[i64]) -> Option<i64>
     }
 }
 
-/// The truth of an atom on a row; `None` where an expression of it has no value.
+/// Returns the truth of an atom on a row, or `None` if an expression of it has no value.
 #[tactic(auto, unfolding(mltl_base::specs::Atoms::holds))]
 pub fn holds(a: &Atom, row: &[i64]) -> Option<bool>
     ensures truth { IfSome result (λ v. v ≡ holds_on (as_atom a.now) row.now) }
@@ -44,7 +45,7 @@ pub fn holds(a: &Atom, row: &[i64]) -> Option<bool>
     }
 }
 
-/// The number in a column, which is 0 past the end of the row.
+/// Returns the number in a column, or 0 past the end of the row.
 fn in_column(row: &[i64], column: u32) -> i64
     ensures { result ≡ column_of row.now column }
 {
@@ -55,7 +56,7 @@ fn in_column(row: &[i64], column: u32) -> i64
     }
 }
 
-/// An operator between two numbers; quotient and remainder truncate toward zero.
+/// Computes an operator between two numbers. Quotient and remainder truncate toward zero.
 fn compute(op: ArithOp, a: i64, b: i64) -> Option<i64>
     ensures value { IfSome result (λ v. v ≡ arithmetic_result op a b) }
     ensures none { IfNone result (¬ HasResult op a b) }
@@ -69,7 +70,7 @@ fn compute(op: ArithOp, a: i64, b: i64) -> Option<i64>
     }
 }
 
-/// The remainder with the sign of the left operand, which is 0 where the divisor is -1.
+/// Returns the remainder with the sign of the left operand, which is 0 if the divisor is -1.
 fn remainder(a: i64, b: i64) -> Option<i64>
     ensures value { IfSome result (λ v. v ≡ arithmetic_result Remainder a b) }
     ensures none { IfNone result (b ≡ pos 0) }
@@ -83,7 +84,7 @@ fn remainder(a: i64, b: i64) -> Option<i64>
     Some(a % b)
 }
 
-/// A comparison of two numbers.
+/// Compares two numbers.
 fn compare(op: CompareOp, a: i64, b: i64) -> bool
     ensures { result ≡ comparison_holds op a b }
 {

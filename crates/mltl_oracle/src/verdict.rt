@@ -16,7 +16,7 @@ use crate::{Atom, Formula};
 use mltl_base::{BetweenOp, Interval, List, LogicOp, WindowOp};
 use std::alloc::{AllocFailed, Global};
 
-/// Why there is no result.
+/// The fault of a computation.
 #[derive(Clone, Copy)]
 pub enum Fault {
     /// Out of memory.
@@ -44,7 +44,7 @@ enum Operator {
     Between(BetweenOp, Interval),
 }
 
-/// The verdicts of a formula that are known after the rows.
+/// Returns the verdicts of a formula that are known after the rows.
 pub fn verdicts(alloc: Global, rows: &[List<i64>], p: &Formula) -> Result<List<bool>, Fault>
     ensures known { IfOk result (λ vs. vs ≡ verdicts_of rows.now (as_formula p.now)) }
     ensures cause { ComputesAll rows.now (as_formula p.now) → IfErr result (λ why. why ≡ NoMemory) }
@@ -73,7 +73,7 @@ pub fn verdicts(alloc: Global, rows: &[List<i64>], p: &Formula) -> Result<List<b
     }
 }
 
-/// The truth of a formula at a time, where the rows decide it.
+/// Returns the truth of a formula at a time, if the rows decide it.
 pub fn meaning(
     alloc: Global,
     rows: &[List<i64>],
@@ -91,14 +91,14 @@ pub fn meaning(
     Ok(decided)
 }
 
-/// What is known at a time.
+/// Returns the known verdict at a time.
 fn at(vs: &List<bool>, t: usize) -> Option<bool>
     ensures { result ≡ slice_get vs.now t }
 {
     known(vs.as_slice(), t)
 }
 
-/// One truth for each row.
+/// Returns one truth for each row.
 fn constant(alloc: Global, b: bool, rows: &[List<i64>]) -> Result<List<bool>, Fault>
     ensures known { IfOk result (λ vs. vs ≡ verdicts_of rows.now (truth_formula b)) }
     ensures cause { IfErr result (λ why. why ≡ NoMemory) }
@@ -110,7 +110,7 @@ fn constant(alloc: Global, b: bool, rows: &[List<i64>]) -> Result<List<bool>, Fa
     Ok(known)
 }
 
-/// The truth of an atom on each row.
+/// Returns the truth of an atom on each row.
 fn truths(alloc: Global, a: &Atom, rows: &[List<i64>]) -> Result<List<bool>, Fault>
     ensures known { IfOk result (λ vs. vs ≡ map (holds_on (as_atom a.now)) rows.now) }
     ensures cause { All (λ row. ComputesAtom row (as_atom a.now)) rows.now →
@@ -124,7 +124,8 @@ fn truths(alloc: Global, a: &Atom, rows: &[List<i64>]) -> Result<List<bool>, Fau
     Ok(known)
 }
 
-/// The values of an operator over known verdicts of its operands, up to the first time at which it is unknown.
+/// Returns the values of an operator over known verdicts of its operands, up to the first time at
+/// which it is unknown.
 fn front(
     alloc: Global,
     op: Operator,
@@ -139,7 +140,7 @@ fn front(
     front_of(alloc, op, ps.as_slice(), qs.as_slice(), n)
 }
 
-/// The same over slices.
+/// Returns the values of an operator over known verdicts of its operands, over slices.
 fn front_of(
     alloc: Global,
     op: Operator,
@@ -161,7 +162,7 @@ fn front_of(
     Ok(known)
 }
 
-/// What is known of an operator at a time.
+/// Returns the known value of an operator at a time.
 fn known_at(op: Operator, ps: &[bool], qs: &[bool], t: usize) -> Option<bool>
     requires room { t + 1 < 2 ^ 64 }
     ensures { result ≡ k_operator op (slice_get ps.now) (slice_get qs.now) t }
@@ -174,7 +175,7 @@ fn known_at(op: Operator, ps: &[bool], qs: &[bool], t: usize) -> Option<bool>
     }
 }
 
-/// An operator between two values.
+/// Returns the value of an operator between two values.
 fn logic_at(op: LogicOp, p: Option<bool>, q: Option<bool>) -> Option<bool>
     ensures { result ≡ k_logic op (λ s. p) (λ s. q) 0 }
 {
@@ -186,7 +187,7 @@ fn logic_at(op: LogicOp, p: Option<bool>, q: Option<bool>) -> Option<bool>
     }
 }
 
-/// A temporal operator of one formula at a time.
+/// Returns the value of a temporal operator of one formula at a time.
 fn window_at(op: WindowOp, i: Interval, ps: &[bool], t: usize) -> Option<bool>
     requires room { t + 1 < 2 ^ 64 }
     ensures { result ≡ k_window op i (slice_get ps.now) t }
@@ -199,7 +200,8 @@ fn window_at(op: WindowOp, i: Interval, ps: &[bool], t: usize) -> Option<bool>
     }
 }
 
-/// A temporal operator between two formulas at a time; `a R b` is `!(!a U !b)`.
+/// Returns the value of a temporal operator between two formulas at a time; `a R b` is `!(!a U
+/// !b)`.
 fn between_at(op: BetweenOp, i: Interval, ps: &[bool], qs: &[bool], t: usize) -> Option<bool>
     requires room { t + 1 < 2 ^ 64 }
     ensures { result ≡ k_between op i (slice_get ps.now) (slice_get qs.now) t }
