@@ -1,4 +1,4 @@
--- The first fault of a program file: that of its bytes, else that of the program which they spell.
+-- The first fault of a program file: the fault of its bytes, else the fault of the program that they spell.
 
 use Rattle.std.specs.Prelude.{ℕ, ◌≡◌, List, Option, Some, None, Result, Ok, Err, ⊤}
 use Rattle.mltl_base.specs.declared.program.Program.{Program}
@@ -43,7 +43,7 @@ abbrev pub unless_found : Program → Option VerifyFault → Result Program File
 unless_found program None = Ok program
 unless_found program (Some fault) = Err (of_verifying fault)
 
--- a program that is read, as far as it is well-formed
+-- a program that is read, or its first fault if it isn't well-formed
 abbrev pub verified : Result Program ReadFault → Result Program FileFault
 verified (Ok program) = unless_found program (first_fault program)
 verified (Err fault) = Err (of_reading fault)
@@ -52,7 +52,7 @@ verified (Err fault) = Err (of_reading fault)
 abbrev pub opened : List ℕ → Result Program FileFault
 opened bytes = verified (program_at bytes)
 
--- a call returns what was found, unless out of memory
+-- a call returns the program or the fault, unless out of memory
 abbrev pub ReturnsOpened : Result Program FileFault → Result Program FileFault → Type 0
 ReturnsOpened (Ok program) found = found ≡ Ok program
 ReturnsOpened (Err file.Memory) found = ⊤

@@ -35,8 +35,8 @@ u32_bytes n = to_le_bytes w32 n
 unfoldable pub i64_bytes : ℤ → List ℕ
 i64_bytes z = to_le_bytes w64 (cast_unsigned w64 z)
 
--- the 24 bytes of an instruction or an output: its opcode, the byte after it, two bytes 0 and five numbers. What an
--- opcode gives no content is 0.
+-- the 24 bytes of an instruction or an output: its opcode, the byte after it, two bytes 0 and five numbers. Fields that the
+-- opcode doesn't use are 0.
 abbrev pub entry : ℕ → ℕ → List ℕ → List ℕ
 entry opcode second numbers = (opcode ∷ second ∷ 0 ∷ 0 ∷ []) ++ flat_map u32_bytes numbers
 
@@ -88,7 +88,7 @@ abbrev pub engine_code : Engine → ℕ
 engine_code Ft = 0
 engine_code Pt = 1
 
--- the opcode of an output: that of a formula, or that of a contract, which has a right instruction
+-- the opcode of an output: a formula, or a contract, which has a right instruction
 abbrev pub out_opcode : Option ℕ → ℕ
 out_opcode None = 0x30
 out_opcode (Some right) = 0x31
@@ -107,7 +107,7 @@ signal_entry s = u32_bytes s.column ++ ((if s.truth then 1 else 0) ∷ s.name_le
 abbrev pub header_len : ℕ → ℕ
 header_len version = if version == 2 then 40 else 32
 
--- in version 2 the numbers of signals and of their name bytes follow the header of version 1
+-- the numbers of signals and of their name bytes, which follow the header of version 1 in version 2
 abbrev pub signal_counts : Header → List ℕ
 signal_counts h = if h.version == 2 then flat_map u32_bytes (h.signals ∷ h.signal_bytes ∷ []) else []
 
@@ -136,11 +136,11 @@ signal_name s = s.name
 abbrev pub signal_head : StoredSignal → SignalHead
 signal_head s = record { column = s.column; truth = s.truth; name_len = length s.name }
 
--- the names of the outputs, in order and without anything between
+-- the names of the outputs, in order, joined
 abbrev pub out_names : Program → List ℕ
 out_names p = flat_map out_name p.outs
 
--- the names of the signals, in order and without anything between
+-- the names of the signals, in order, joined
 abbrev pub signal_names : Program → List ℕ
 signal_names p = flat_map signal_name p.signals
 
@@ -169,14 +169,14 @@ spelling p =
     ++ (flat_map (λ s. signal_entry (signal_head s)) p.signals
     ++ (out_names p ++ signal_names p))))))
 
--- ---- which programs have bytes
+-- ---- programs that have bytes
 
--- Version 1 has no signals.
+-- The program has version 1 and no signals, or version 2.
 abbrev pub IsVersioned : Program → Type 0
 IsVersioned p = ((p.version ≡ 1) × (p.signals ≡ [])) ⊎ (p.version ≡ 2)
 
--- A program that can be written: each engine's instruction has a size, and the numbers of members and of name bytes
--- fit their fields.
+-- The program can be written: each engine's instruction has a size, and the numbers of members and of name bytes fit their
+-- fields.
 pub record IsWritable (p : Program) : Type 0 where
   pub versioned : IsVersioned p
   pub ft_sizes : length p.sizes.ft ≡ length p.ft
@@ -235,8 +235,8 @@ FitsOut (Contract engine a b name) = (a < 2 ^ 32) × (b < 2 ^ 32) × FitsName na
 abbrev pub FitsSignal : StoredSignal → Type 0
 FitsSignal s = (s.column < 2 ^ 32) × FitsName s.name
 
--- A program that can be written, whose numbers are those of its types: they have 32 bits, constants have 64, and a name
--- has 1 to 64 bytes. A program in memory always has such numbers.
+-- The program can be written, and its numbers fit their types: they have 32 bits, constants have 64, and a name has 1 to 64
+-- bytes. A program in memory always has such numbers.
 pub record IsEncodable (p : Program) : Type 0 where
   pub layout : IsWritable p
   pub width : p.width < 2 ^ 32

@@ -1,4 +1,4 @@
--- Reading the bytes of an observer program, with the first fault in the order in which faults are looked for.
+-- The value of the bytes of an observer program, or their first fault, in the order in which faults are looked for.
 use Rattle.std.specs.Prelude.{◌≡◌, ◌+◌, ◌-◌, ◌&&◌, ◌||◌, ◌==◌, not, ℕ, ℤ, suc, zero, Bool, if◌then◌else◌, List, [], ◌∷◌}
 use Rattle.std.specs.Prelude.{length, take, drop, map, slice_index, Option, Some, None, Result, Ok, Err, nat_lt, nat_le}
 use Rattle.std.specs.Prelude.{nat_eq, codes, ⊤}
@@ -43,12 +43,12 @@ signed_at bytes k = cast_signed w64 (from_le_bytes w64 (take 8 (drop k bytes)))
 
 -- ---- reading
 
--- reading gives this fault; want of memory says nothing of the bytes
+-- reading gives this fault; `Memory` says nothing about the bytes
 abbrev pub FailsWith : {Y : Type 0} → ReadFault → Result Y ReadFault → Type 0
 FailsWith Memory read = ⊤
 FailsWith fault read = read ≡ Err fault
 
--- what a call answered, seen by `view`, is what reading gives, unless memory ran out
+-- the result of a call, through `view`, is the result of reading, unless memory ran out
 abbrev pub GivesReading : {X Y : Type 0} → (X → Y) → Result X ReadFault → Result Y ReadFault → Type 0
 GivesReading view (Ok x) read = read ≡ Ok (view x)
 GivesReading view (Err fault) read = FailsWith fault read
@@ -59,27 +59,27 @@ abbrev pub ◌>>=◌ : {A B : Type 0} → Result A ReadFault → (A → Result B
 (Ok x) >>= f = f x
 (Err fault) >>= f = Err fault
 
--- the first offset, counted from `offset` on, where the bytes of an entry aren't as they must be
+-- the first offset, counted from `offset` on, of a byte of an entry that isn't as it must be
 unfoldable pub first_other : ℕ → List ℕ → List ℕ → Option ℕ
 first_other offset [] bytes = None
 first_other offset (must ∷ musts) [] = Some offset
 first_other offset (must ∷ musts) (byte ∷ bytes) =
     if byte == must then first_other (suc offset) musts bytes else Some offset
 
--- what was read, unless a byte of its entry isn't as it must be
+-- the value, or the fault of a byte of its entry that isn't as it must be
 abbrev pub unless_other : {A : Type 0} → Option ℕ → A → Result A ReadFault
 unless_other None x = Ok x
 unless_other (Some offset) x = Err (Reserved offset)
 
--- an entry that holds x, with the bytes after it; without x its opcode is at fault
+-- the entry of x, with the bytes after it; without x, the fault of its opcode
 abbrev pub as_spelled : {X : Type 0} → ℕ → (X → List ℕ) → ℕ → List ℕ → Option X → Result (X × List ℕ) ReadFault
 as_spelled len spelled offset bytes None = Err (Opcode offset)
 as_spelled len spelled offset bytes (Some x) =
     unless_other (first_other offset (spelled x) (take len bytes)) (x, drop len bytes)
 
--- The entry of `len` bytes in front of others. `content` is what its opcode and its fields say, if the opcode is of its
--- part. An entry that isn't as its content is spelled has a byte other than 0 at an offset without content, or an
--- engine or a kind above 1. The file has `size` bytes, so the offset of the entry is the number of those before it.
+-- The entry of `len` bytes in front of others. `content` is the value of its opcode and its fields, if its part has the
+-- opcode. An entry that isn't the spelling of its content has a byte other than 0 at an offset without content, or an engine
+-- or a kind above 1. The file has `size` bytes, so the offset of the entry is the number of bytes before it.
 unfoldable pub entry_at : {X : Type 0} → ℕ → (X → List ℕ) → (List ℕ → Option X) → ℕ → List ℕ
     → Result (X × List ℕ) ReadFault
 entry_at len spelled content size bytes = as_spelled len spelled (size - length bytes) bytes (content (take len bytes))
@@ -93,9 +93,9 @@ each_at read (suc n) bytes = do
   others ← each_at read n first.1
   Ok (first.0 ∷ others.0, others.1)
 
--- ---- what the opcode and the fields of an entry say
+-- ---- the values of the opcodes and the fields of entries
 
--- the Booleanizer instruction that an entry says, if its opcode is that of one
+-- the Booleanizer instruction of an entry, if it has the opcode of one
 unfoldable pub bz_content : List ℕ → Option BzOp
 bz_content bytes =
     let opcode = slice_index bytes 0 in
@@ -119,7 +119,7 @@ bz_content bytes =
 abbrev pub entry_interval : List ℕ → Interval
 entry_interval bytes = record { lo = u32_from bytes 12; hi = u32_from bytes 16 }
 
--- the future-time instruction that an entry says, with its size, if its opcode is that of one
+-- the future-time instruction of an entry, with its size, if it has the opcode of one
 unfoldable pub ft_content : List ℕ → Option (FtOp × ℕ)
 ft_content bytes =
     let opcode = slice_index bytes 0 in
@@ -133,7 +133,7 @@ ft_content bytes =
     else if opcode == 0x14 then Some (ft.Until a b (entry_interval bytes), size)
     else None
 
--- the past-time instruction that an entry says, with its size, if its opcode is that of one
+-- the past-time instruction of an entry, with its size, if it has the opcode of one
 unfoldable pub pt_content : List ℕ → Option (PtOp × ℕ)
 pt_content bytes =
     let opcode = slice_index bytes 0 in
@@ -156,7 +156,7 @@ abbrev pub out_at : List ℕ → Option ℕ → OutHead
 out_at bytes right =
     record { engine = engine_at bytes; left = u32_from bytes 4; right = right; name_len = u32_from bytes 12 }
 
--- what an output's entry says, if its opcode is that of a formula or of a contract
+-- the fields of an output's entry, if its opcode is for a formula or a contract
 unfoldable pub out_content : List ℕ → Option OutHead
 out_content bytes =
     let opcode = slice_index bytes 0 in
@@ -164,19 +164,19 @@ out_content bytes =
     else if opcode == 0x31 then Some (out_at bytes (Some (u32_from bytes 8)))
     else None
 
--- a signal has no opcode
+-- the fields of a signal's entry, which has no opcode
 unfoldable pub signal_content : List ℕ → Option SignalHead
 signal_content bytes =
     Some (record { column = u32_from bytes 0; truth = slice_index bytes 4 == 1; name_len = slice_index bytes 5 })
 
 -- ---- names
 
--- a name of `len` bytes comes first: 1 to 64 letters, digits or `_`, none of them past the end
+-- true if a name of `len` bytes comes first: 1 to 64 letters, digits or `_`, none of them past the end
 abbrev pub is_name_in_front : ℕ → List ℕ → Bool
 is_name_in_front len bytes = is_in_range 1 64 len && nat_le len (length bytes) && list_all is_in_word (take len bytes)
 
--- The names of `heads`, one after the other, which take all bytes. The fault of head k comes where its name isn't one,
--- and that of the number of heads where bytes are left over.
+-- The heads with their names, one after the other, which take all bytes. Head k is at fault if its name isn't one; the fault
+-- has the number of heads if bytes are left over.
 unfoldable pub named : {H X : Type 0} → (H → ℕ) → (H → List ℕ → X) → (ℕ → ReadFault) → ℕ → List H → List ℕ
     → Result (List X) ReadFault
 named len_of with_name fault k [] bytes = if length bytes == 0 then Ok [] else Err (fault k)
@@ -219,7 +219,7 @@ header_fields version bytes = record {
   signal_bytes = if version == 2 then u32_from bytes 36 else 0;
 }
 
--- the number of bytes that the header says
+-- the number of bytes of the file, according to the header
 abbrev pub said_len : Header → ℕ
 said_len h = header_len h.version + body_len h
 
@@ -238,7 +238,7 @@ header_at bytes =
     else if nat_lt (said_len header) (length bytes) then Err Trailing
     else Ok header
 
--- what follows the header of a file of `size` bytes
+-- the program after the header of a file of `size` bytes
 unfoldable pub past_header : Header → ℕ → List ℕ → Result Program ReadFault
 past_header header size bytes = do
   bz ← each_at (entry_at 24 bz_entry bz_content size) header.bz bytes

@@ -1,4 +1,4 @@
--- Faults of program files, in words.
+-- Faults of program files, as text.
 
 use Rattle.std.specs.Prelude.{ℕ, List, ◌++◌, codes}
 use Rattle.obs_verify.specs.declared.fault.VerifyFault.TheVariants as verify
@@ -6,7 +6,7 @@ use Rattle.obs_verify.specs.FaultTexts.{with_number, verify_fault_text}
 use Rattle.obs_binary.specs.declared.file_fault.FileFault as file
 use Rattle.obs_binary.specs.declared.file_fault.ProgramFault as fault
 
--- what is wrong with a program file; of a program that is read, as the verifier says it
+-- the text of a program file's fault; faults of the verifier have its text
 abbrev pub fault_text : fault.ProgramFault → List ℕ
 fault_text fault.TheVariants.Short = codes "short"
 fault_text fault.TheVariants.Magic = codes "magic"
@@ -27,7 +27,7 @@ fault_text (fault.TheVariants.Output k) = verify_fault_text (verify.Output k)
 fault_text (fault.TheVariants.Size p i) = verify_fault_text (verify.Size p i)
 fault_text fault.TheVariants.TooManySlots = verify_fault_text verify.TooManySlots
 
--- why bytes give no checked program
+-- the text of the reason why bytes give no checked program
 abbrev pub file_fault_text : file.FileFault → List ℕ
 file_fault_text (file.TheVariants.Program why) = codes "program: " ++ fault_text why
 file_fault_text file.TheVariants.Memory = codes "out of memory"

@@ -9,7 +9,7 @@ use byteorder::{ByteOrder, LittleEndian};
 use mltl_base::List;
 use std::alloc::Global;
 
-/// What an entry of a program file holds.
+/// A value that an entry of a program file holds.
 pub(crate) trait Entry: Sized + Drop {
     // The number of bytes of an entry.
     ghost LEN: { ℕ };
@@ -17,25 +17,27 @@ pub(crate) trait Entry: Sized + Drop {
     // The bytes of the entry that holds a value.
     ghost spelled: { Self → Items ℕ };
 
-    // What the opcode and the fields of an entry say, whatever its other bytes are.
+    // The value that the opcode and the fields of an entry give, whatever its other bytes are.
     ghost content: { Items ℕ → Option Self };
 
     /// The number of bytes of an entry.
     const LEN: usize;
 
-    /// What the opcode and the fields say; `None` where the opcode is none of the part.
+    /// Returns the value that the opcode and the fields give, or `None` if no such opcode exists in
+    /// the part.
     fn content(bytes: &[u8]) -> Option<Self>
         requires { length bytes.now ≡ LEN }
         ensures { result ≡ content bytes.now };
 
-    /// The first offset from `offset` on, which is that of the entry, where its bytes aren't as they must be.
+    /// Returns the offset of the first byte of the entry that isn't as it must be. The entry starts
+    /// at `offset`.
     fn first_other(&self, offset: u64, bytes: &[u8]) -> Option<u64>
         requires len { length bytes.now ≡ LEN }
         requires offset { offset + length bytes.now < 2 ^ 64 }
         ensures { result ≡ first_other offset (spelled self.now) bytes.now };
 }
 
-/// The bytes of an entry with five numbers.
+/// Returns the bytes of an entry with five numbers.
 #[tactic(auto, unfolding(crate::specs::Layout::u32_bytes))]
 pub(crate) fn entry_bytes(opcode: u8, second: u8, numbers: &[u32; 5]) -> [u8; 24]
     ensures { result ≡ entry opcode second numbers.now }
@@ -47,7 +49,7 @@ pub(crate) fn entry_bytes(opcode: u8, second: u8, numbers: &[u32; 5]) -> [u8; 24
     bytes
 }
 
-/// The bytes of a constant.
+/// Returns the bytes of a constant.
 #[tactic(auto, unfolding(crate::specs::Layout::u32_bytes, crate::specs::Layout::i64_bytes))]
 pub(crate) fn constant_bytes(value: i64) -> [u8; 24]
     ensures { result ≡ constant value }
@@ -58,7 +60,7 @@ pub(crate) fn constant_bytes(value: i64) -> [u8; 24]
     bytes
 }
 
-/// The first offset from `offset` on where the bytes of an entry aren't as they must be.
+/// Returns the offset of the first byte that isn't as in `musts`. The bytes start at `offset`.
 pub(crate) fn first_other(offset: u64, musts: &[u8], bytes: &[u8]) -> Option<u64>
     requires len { length musts.now ≡ length bytes.now }
     requires offset { offset + length bytes.now < 2 ^ 64 }

@@ -1,4 +1,4 @@
-//! Why bytes are no observer program.
+//! Faults of bytes that are no observer program.
 
 ghost use Rattle.std.specs.Prelude.{◌≡◌};
 ghost use Rattle.obs_binary.specs.declared.fault.ReadFault.TheVariants.{Memory};
@@ -20,10 +20,11 @@ pub enum ReadFault {
     Opcode(u64),
     /// The bytes are more than the header says.
     Trailing,
-    /// The name of this output isn't 1 to 64 letters, digits and `_` within the name bytes; the number of outputs
-    /// where bytes are left over.
+    /// The name of this output isn't 1 to 64 letters, digits and `_` within the name bytes; the
+    /// number of outputs if bytes are left over.
     NameBytes(u32),
-    /// The same for the name of a signal.
+    /// The name of this signal isn't 1 to 64 letters, digits and `_` within the name bytes; the
+    /// number of signals if bytes are left over.
     SignalBytes(u32),
     /// Out of memory.
     Memory,

@@ -1,4 +1,4 @@
-//! What is wrong with a program.
+//! Faults of program files.
 
 ghost use Rattle.std.specs.Prelude.{◌≡◌};
 ghost use Rattle.obs_binary.specs.Faults.{of_reading, of_verifying};
@@ -9,7 +9,8 @@ use obs_verify::VerifyFault;
 use std::error::Error;
 use std::fmt;
 
-/// What is wrong with a program: with its bytes, up to `SignalBytes`, or with its instructions. Numbers count from 0.
+/// The fault of a program: up to `SignalBytes` in its bytes, else in its instructions. Numbers
+/// count from 0.
 #[derive(Clone, Copy)]
 pub enum ProgramFault {
     /// The bytes are fewer than a header, or fewer than the header says.
@@ -24,25 +25,27 @@ pub enum ProgramFault {
     Opcode(u64),
     /// The bytes are more than the header says.
     Trailing,
-    /// This output has no name of 1 to 64 letters, digits and `_`; the number of outputs where bytes are left over.
+    /// This output has no name of 1 to 64 letters, digits and `_`; the number of outputs if bytes
+    /// are left over.
     NameBytes(u32),
-    /// The same for the name of a signal.
+    /// This signal has no name of 1 to 64 letters, digits and `_`; the number of signals if bytes
+    /// are left over.
     SignalBytes(u32),
     /// The width is above its limit.
     Width,
-    /// A stored signal has no column of a row, or the column or the name of one before.
+    /// A stored signal has no column of a row, or has the column or the name of an earlier signal.
     Signal(u32),
     /// An instruction reads a column or an instruction that it can't read.
     Operand(Part, u32),
     /// An interval runs downward or past its limit.
     Interval(Part, u32),
-    /// An instruction divides by what isn't a number other than 0.
+    /// The divisor of an instruction isn't a single number other than 0.
     Divisor(u32),
     /// An instruction may have a value of more than 64 bits.
     Range(u32),
     /// The worst-case delay of a future-time instruction is above its limit.
     TooLate(u32),
-    /// An output reports an instruction that isn't there.
+    /// An output reports an instruction that doesn't exist.
     Output(u32),
     /// A stored size isn't the size that the instruction needs.
     Size(Part, u32),
@@ -50,10 +53,10 @@ pub enum ProgramFault {
     TooManySlots,
 }
 
-/// Why bytes give no checked program.
+/// The reason why bytes give no checked program.
 #[derive(Clone, Copy)]
 pub enum FileFault {
-    /// This is wrong with the program.
+    /// The program has this fault.
     Program(ProgramFault),
     /// Out of memory.
     Memory,

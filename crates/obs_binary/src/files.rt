@@ -1,4 +1,4 @@
-//! Checked programs from and to bytes.
+//! Opens checked programs from bytes, and writes them.
 
 ghost use Rattle.std.specs.Prelude.{◌≡◌, IfOk, OnOk};
 ghost use Rattle.obs_binary.specs.Layout.{IsEncodable, spelling};
@@ -10,14 +10,14 @@ use crate::{FileFault, read_program, write_program};
 use obs_verify::{Checked, verify};
 use std::alloc::{AllocError, Global};
 
-/// The checked program that these bytes spell.
+/// Returns the checked program that these bytes spell.
 ///
-/// Errors: the first fault of the bytes, in the order of `read_program`, else the first of the program, in the order of
-/// `verify`; `Memory` when out of memory.
+/// Errors: the first fault of the bytes, in the order of `read_program`, else the first fault of
+/// the program, in the order of `verify`; `Memory` when out of memory.
 pub fn open(alloc: Global, bytes: &[u8]) -> Result<Checked, FileFault>
-    // Which program it is, or which fault.
+    // The result is the program or the first fault of the definitions.
     ensures answer { ReturnsOpened result (opened bytes.now) }
-    // Its bytes are these, each of them.
+    // The bytes are the spelling of the program.
     ensures spelled { IfOk result (λ checked. bytes.now ≡ spelling checked) }
     ensures fits { IfOk result (λ checked. IsEncodable checked) }
     ensures well_formed { IfOk result (λ checked. IsWellFormed checked) }
@@ -28,11 +28,11 @@ pub fn open(alloc: Global, bytes: &[u8]) -> Result<Checked, FileFault>
     Ok(checked)
 }
 
-/// The bytes of a checked program, in the layout of its version.
+/// Returns the bytes of a checked program, in the layout of its version.
 pub fn image(alloc: Global, checked: &Checked) -> Result<Vec<u8>, AllocError>
     requires names { NamesFit checked.now }
     ensures written { IfOk result (λ bytes. bytes.items ≡ spelling checked.now) }
-    // So they are opened again as this program.
+    // So opening the bytes gives this program.
     ensures fits { OnOk result (IsEncodable checked.now) }
 {
     write_program(alloc, checked.program())

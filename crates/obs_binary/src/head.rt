@@ -1,4 +1,4 @@
-//! Outputs and signals as their entries have them: without their names, which follow all entries.
+//! Outputs and signals as in their entries: without their names, which follow all entries.
 
 ghost use Rattle.std.specs.Prelude.{◌≡◌, ◌==◌, if◌then◌else◌};
 ghost use Rattle.obs_binary.specs.Layout.{out_entry, signal_entry};
@@ -12,7 +12,8 @@ use crate::names::Head;
 use byteorder::{ByteOrder, LittleEndian};
 use mltl_base::{Engine, Name, Out, StoredSignal};
 
-/// An output without its name: the numbers of its instructions, and the length of the name. A contract has two.
+/// An output without its name: the numbers of its one or two instructions, and the length of the
+/// name.
 #[derive(Clone, Copy)]
 pub(crate) struct OutHead {
     pub(crate) engine: Engine,
@@ -29,7 +30,7 @@ pub(crate) struct SignalHead {
     pub(crate) name_len: u8,
 }
 
-/// The entry of an output.
+/// Returns the entry of an output.
 #[tactic(auto, unfolding(crate::specs::Layout::out_entry))]
 pub(crate) fn out_bytes(head: OutHead) -> [u8; 24]
     ensures { result ≡ out_entry head }
@@ -104,7 +105,7 @@ impl Head for OutHead {
     }
 }
 
-/// The entry of a signal.
+/// Returns the entry of a signal.
 #[tactic(auto, unfolding(crate::specs::Layout::signal_entry, crate::specs::Layout::u32_bytes))]
 pub(crate) fn signal_bytes(head: SignalHead) -> [u8; 8]
     ensures { result ≡ signal_entry head }

@@ -9,8 +9,8 @@ use crate::fields::{u16_at, u32_at};
 use byteorder::{ByteOrder, LittleEndian};
 use std::alloc::AllocError;
 
-/// The numbers of a header: its version, the width of a row, how many entries of each part follow, and how many name
-/// bytes. In version 1 there are no signals.
+/// The numbers of a header: the version, the width of a row, and the numbers of entries of each
+/// part and of name bytes. In version 1 there are no signals.
 #[derive(Clone, Copy)]
 pub(crate) struct Header {
     pub(crate) version: u32,
@@ -25,14 +25,14 @@ pub(crate) struct Header {
 }
 
 impl Header {
-    /// The number of bytes of the header.
+    /// Returns the number of bytes of the header.
     pub(crate) fn len(&self) -> usize
         ensures { result ≡ header_len self.now.version }
     {
         if self.version == 2 { 40 } else { 32 }
     }
 
-    /// The number of bytes of the file, as the header says it.
+    /// Returns the number of bytes of the file, according to the header.
     fn said_len(&self) -> usize
         ensures { result ≡ said_len self.now }
     {
@@ -44,7 +44,7 @@ impl Header {
         self.len() + entries + self.name_bytes as usize + self.signal_bytes as usize
     }
 
-    /// The numbers of a header of this version.
+    /// Returns the numbers of a header of this version.
     fn fields(version: u32, bytes: &[u8]) -> Header
         requires { header_len version ≤ length bytes.now }
         ensures { result ≡ header_fields version bytes.now }
@@ -103,7 +103,7 @@ impl Header {
         Ok(header)
     }
 
-    /// Writes the header after `out`.
+    /// Appends the header to `out`.
     #[tactic(auto, unfolding(crate::specs::Layout::header_bytes, crate::specs::Layout::u16_bytes, crate::specs::Layout::u32_bytes))]
     pub(crate) fn put(&self, out: &mut Vec<u8>) -> Result<(), AllocError>
         requires { self.now.version < 2 ^ 16 }

@@ -1,4 +1,4 @@
-//! The entries of instructions.
+//! Entries of instructions.
 
 ghost use Rattle.std.specs.Prelude.{◌≡◌, length};
 ghost use Rattle.obs_binary.specs.Layout.{bz_entry, ft_entry, pt_entry, FitsBz, FitsFt, FitsPt};
@@ -8,7 +8,7 @@ use crate::entry::{Entry, constant_bytes, entry_bytes, first_other};
 use crate::fields::{i64_at, u32_at};
 use mltl_base::{BzOp, FtOp, Interval, PtOp};
 
-/// The entry of an instruction of the Booleanizer.
+/// Returns the entry of an instruction of the Booleanizer.
 #[tactic(auto, unfolding(crate::specs::Layout::bz_entry))]
 pub(crate) fn bz_bytes(op: BzOp) -> [u8; 24]
     ensures bytes { result ≡ bz_entry op }
@@ -75,7 +75,7 @@ fn interval_of(bytes: &[u8]) -> Interval
     }
 }
 
-/// The entry of a future-time instruction with its size.
+/// Returns the entry of a future-time instruction with its size.
 #[tactic(auto, unfolding(crate::specs::Layout::ft_entry))]
 pub(crate) fn ft_bytes(op: FtOp, size: u32) -> [u8; 24]
     ensures bytes { result ≡ ft_entry (op, size) }
@@ -119,7 +119,7 @@ impl Entry for (FtOp, u32) {
     }
 }
 
-/// The entry of a past-time instruction with its size.
+/// Returns the entry of a past-time instruction with its size.
 #[tactic(auto, unfolding(crate::specs::Layout::pt_entry))]
 pub(crate) fn pt_bytes(op: PtOp, size: u32) -> [u8; 24]
     ensures bytes { result ≡ pt_entry (op, size) }

@@ -1,4 +1,4 @@
-//! Laws of program files: each is the contract of a function with an empty body.
+//! Laws of program files: each is the contract of an empty function.
 
 ghost use Rattle.std.specs.Prelude.{◌≡◌, Ok};
 ghost use Rattle.mltl_base.specs.declared.program.Program.{Program as Observer};
@@ -15,7 +15,7 @@ pub fn images_open()
         → opened (spelling program) ≡ Ok program }
 {}
 
-/// The names of a program can be written in version 2 too.
+/// The names of a program can also be written in version 2.
 pub fn upgraded_names_fit()
     ensures { (program : Observer) → IsWellFormed program → NamesFit program
         → NamesFit (up program) }

@@ -1,4 +1,4 @@
-//! Observer programs as bytes: the one spelling of each program, and its reading, in both versions of the layout.
+//! Observer programs as bytes: writing and reading both versions of the layout.
 #![tactic(auto)]
 
 mod entry;

@@ -1,4 +1,4 @@
-//! The names of outputs and signals, which follow all entries.
+//! Names of outputs and signals, which follow all entries.
 
 ghost use Rattle.std.specs.Prelude.{◌≡◌, ◌<◌, ◌^◌, ℕ, List as Items, length, MatchOption, false, true, take, drop};
 ghost use Rattle.std.specs.List.{list_all};
@@ -13,27 +13,27 @@ use std::alloc::Global;
 
 /// The fields of an entry, without its name.
 pub(crate) trait Head: Sized {
-    /// The same with its name.
+    /// The output or the signal with its name.
     type Whole: Drop;
 
     // The length of the name.
     ghost name_len: { Self → ℕ };
 
-    // The same with its name.
+    // The head with its name.
     ghost with_name: { Self → Items ℕ → Self.Whole };
 
-    // The fault of the name of a head, which is counted from 0.
+    // The fault of the name of head `k`, counted from 0.
     ghost fault: { ℕ → ReadFault };
 
-    /// The length of the name.
+    /// Returns the length of the name.
     fn name_len(&self) -> usize
         ensures { result ≡ name_len self.now };
 
-    /// The same with its name.
+    /// Returns the output or the signal with its name.
     fn with_name(&self, name: Name) -> Self::Whole
         ensures { result ≡ with_name self.now name };
 
-    /// The fault of the name of head `k`.
+    /// Returns the fault of the name of head `k`.
     fn fault(k: u32) -> ReadFault
         ensures { result ≡ fault k };
 }
@@ -44,8 +44,8 @@ fn all_letters(bytes: &[u8]) -> bool
     bytes.iter().all(|byte| is_in_word(*byte))
 }
 
-/// Returns the name of `len` bytes at the start, and the bytes after it; `None` where there is no name of that
-/// length.
+/// Returns the name of `len` bytes at the start, and the bytes after it, or `None` if there is no
+/// name of that length.
 fn name_in_front(len: usize, bytes: &[u8]) -> Option<(Name, &[u8])>
     ensures { MatchOption result (is_name_in_front len bytes.now ≡ false)
         (λ found. (is_name_in_front len bytes.now ≡ true)
@@ -62,7 +62,7 @@ fn name_in_front(len: usize, bytes: &[u8]) -> Option<(Name, &[u8])>
     Some((name, after))
 }
 
-/// The wholes of the heads, whose names take all bytes.
+/// Adds names to the heads. The names must take all bytes.
 pub(crate) fn named<H: Head>(
     alloc: Global,
     heads: &[H],

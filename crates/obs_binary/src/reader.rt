@@ -1,4 +1,4 @@
-//! Reading a program from its bytes.
+//! Reads programs from their bytes.
 
 ghost use Rattle.std.specs.Prelude.{◌≡◌, ◌≤◌, length, map, IfOk, Ok};
 ghost use Rattle.obs_binary.specs.Layout.{IsEncodable, spelling, body_len};
@@ -13,7 +13,7 @@ use crate::names::named;
 use mltl_base::{BzOp, FtOp, List, Program, PtOp, Sizes};
 use std::alloc::{AllocError, Global};
 
-/// The instructions of an engine, and their sizes.
+/// Splits the instructions of an engine from their sizes.
 fn split<O: Copy>(alloc: Global, sized: &[(O, u32)]) -> Result<(List<O>, List<u32>), AllocError>
     ensures ops { IfOk result (λ parts. parts.0 ≡ map (λ x. x.0) sized.now) }
     ensures sizes { IfOk result (λ parts. parts.1 ≡ map (λ x. x.1) sized.now) }
@@ -27,7 +27,7 @@ fn split<O: Copy>(alloc: Global, sized: &[(O, u32)]) -> Result<(List<O>, List<u3
     Ok((List::of(ops), List::of(sizes)))
 }
 
-/// The program whose header and whose bytes after it are these, in a file of `size` bytes.
+/// Reads the program that follows this header, in a file of `size` bytes.
 #[tactic(auto, unfolding(crate::specs::Reading::past_header))]
 fn read_body(
     alloc: Global,
@@ -64,7 +64,7 @@ fn read_body(
     })
 }
 
-/// The program of the bytes, or their first fault.
+/// Reads a program from all the bytes, or returns their first fault.
 #[tactic(auto, unfolding(crate::specs::Reading::program_at))]
 fn read_whole(alloc: Global, bytes: &[u8]) -> Result<Program, ReadFault>
     ensures { GivesReading (λ program. program) result (program_at bytes.now) }
@@ -73,29 +73,33 @@ fn read_whole(alloc: Global, bytes: &[u8]) -> Result<Program, ReadFault>
     read_body(alloc, &header, bytes.len(), &bytes[header.len()..])
 }
 
-/// The program that `write_program` writes as these bytes; else the first fault, in this order.
+/// Returns the program that `write_program` writes as these bytes, or the first fault, in this
+/// order:
 ///
-/// 1. `Short` where there are fewer than 32 bytes, `Magic`, `Version`, `Reserved(6)` and `Reserved(7)`; `Short` where
-///    the bytes are fewer than the header of version 2 or than the header says, and `Trailing` where they are more.
-/// 2. Each instruction and output in order: `Opcode`, or `Reserved` at its first byte that must be 0 and isn't, or that
-///    is an engine above 1. Each signal in order: `Reserved` in the same way, or where its kind is above 1.
-/// 3. `NameBytes` at the first output without a name, or where name bytes are left over; then `SignalBytes`.
+/// 1. `Short` if there are fewer than 32 bytes, `Magic`, `Version`, `Reserved(6)` and
+/// `Reserved(7)`; `Short` if the bytes are fewer than the header of version 2 or than the header
+/// says, and `Trailing` if they are more.
+/// 2. Each instruction and output in order: `Opcode`, or `Reserved` at its first byte that must be
+/// 0 and isn't, or is an engine above 1. Each signal in order: `Reserved` in the same way, or if
+/// its kind is above 1.
+/// 3. `NameBytes` at the first output without a name, or if name bytes are left over; then
+/// `SignalBytes`.
 ///
-/// `Memory` comes only where a growth was refused. Time and memory are linear in the number of bytes: the lengths are
-/// tested before anything is read.
+/// `Memory` comes only if an allocation fails. Time and memory are linear in the number of bytes:
+/// the lengths are checked before anything is read.
 pub fn read_program(alloc: Global, bytes: &[u8]) -> Result<Program, ReadFault>
-    // What is read is spelled so, each byte of it.
+    // The bytes are the spelling of the program that is read.
     ensures found { IfOk result (λ program. IsEncodable program × (bytes.now ≡ spelling program)) }
-    // What is spelled so is read, unless memory runs out.
+    // The spelling of a program is read as that program, unless memory runs out.
     ensures only { (program : Program) → IsEncodable program → bytes.now ≡ spelling program
         → GivesReading (λ read. read) result (Ok program) }
-    // Which fault it is.
+    // The result is the program or the first fault of the definitions.
     ensures exact { GivesReading (λ read. read) result (program_at bytes.now) }
 {
     read_whole(alloc, bytes)
 }
 
-/// Bytes are those of one program alone. This is a law about the layout, and does nothing.
+/// States that bytes spell at most one program. It is a law about the layout, and does nothing.
 pub fn one_program()
     ensures { (p q : Program) → IsEncodable p → IsEncodable q → spelling p ≡ spelling q → p ≡ q }
 {}

@@ -1,4 +1,4 @@
-//! Faults of programs in words.
+//! Faults of programs as text.
 
 ghost use Rattle.std.specs.Prelude.{◌≡◌, ◌+◌, ◌≤◌, ◌++◌, length};
 ghost use Rattle.arrayvec.specs.ArrayVec.{array_vec_len};
@@ -16,7 +16,7 @@ use std::{fmt, str};
 type Text = ArrayVec<u8, 40>;
 
 impl ProgramFault {
-    /// What is wrong, in words: the name of the fault, the part where it has one, and its number.
+    /// Returns the fault as text: its name, its part if it has one, and its number.
     pub fn text(self) -> ArrayVec<u8, 40>
         ensures { result.items ≡ fault_text self }
     {

@@ -1,4 +1,4 @@
-//! Writing a program as its bytes.
+//! Writes programs as bytes.
 
 ghost use Rattle.std.specs.Prelude.{◌≡◌, ◌<◌, ◌^◌, ◌++◌, length, IfOk, OnOk};
 ghost use Rattle.std.specs.List.{flat_map, zip, AllByRecursion};
@@ -110,7 +110,7 @@ fn put_signals(out: &mut Vec<u8>, signals: &[StoredSignal]) -> Result<(), AllocE
     Ok(())
 }
 
-/// The names of the outputs, one after the other.
+/// Joins the names of the outputs.
 fn joined_out_names(alloc: Global, outs: &[Out]) -> Result<Vec<u8>, AllocError>
     ensures { IfOk result (λ names. names.items ≡ flat_map out_name outs.now) }
 {
@@ -121,7 +121,7 @@ fn joined_out_names(alloc: Global, outs: &[Out]) -> Result<Vec<u8>, AllocError>
     Ok(names)
 }
 
-/// The names of the signals, one after the other.
+/// Joins the names of the signals.
 fn joined_signal_names(alloc: Global, signals: &[StoredSignal]) -> Result<Vec<u8>, AllocError>
     ensures { IfOk result (λ names. names.items ≡ flat_map signal_name signals.now) }
 {
@@ -132,7 +132,7 @@ fn joined_signal_names(alloc: Global, signals: &[StoredSignal]) -> Result<Vec<u8
     Ok(names)
 }
 
-/// Writes the header of a program whose names have `name_bytes` bytes.
+/// Returns the header of a program whose names have `name_bytes` and `signal_bytes` bytes.
 fn header_for(program: &Program, name_bytes: u32, signal_bytes: u32) -> Header
     requires layout { IsWritable program.now }
     requires names { name_bytes ≡ length (out_names program.now) }
@@ -163,12 +163,12 @@ fn header_for(program: &Program, name_bytes: u32, signal_bytes: u32) -> Header
     }
 }
 
-/// The bytes of a program, in the layout of its version.
+/// Returns the bytes of a program, in the layout of its version.
 #[tactic(auto, unfolding(crate::specs::Layout::spelling))]
 pub fn write_program(alloc: Global, program: &Program) -> Result<Vec<u8>, AllocError>
     requires { IsWritable program.now }
     ensures written { IfOk result (λ bytes. bytes.items ≡ spelling program.now) }
-    // So the bytes are read again as this program.
+    // So reading the bytes gives this program.
     ensures fits { OnOk result (IsEncodable program.now) }
 {
     let out_names = joined_out_names(alloc, program.outs.as_slice())?;
