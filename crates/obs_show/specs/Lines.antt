@@ -8,7 +8,7 @@ use Rattle.mltl_base.specs.declared.operators.BetweenOp.{BetweenOp}
 use Rattle.mltl_base.specs.declared.operators.CompareOp.{CompareOp}
 use Rattle.mltl_base.specs.declared.operators.LogicOp.{LogicOp}
 
--- what an operand is called: true, a signal's or defined name, or a number
+-- an operand: true, a signal's or a defined name, or a number
 pub data Reference : Type 0 where
   always : Reference
   named : List ℕ → Reference

@@ -1,5 +1,5 @@
--- What the instructions of a program are called as text: an operation by a defined name, other instructions by what
--- they read.
+-- The names of the instructions of a program in its text: an operation has a defined name, another instruction is named
+-- after what it reads.
 
 use Rattle.std.specs.Prelude.{ℕ, ◌+◌, ◌==◌, Bool, true, false, not, if◌then◌else◌, Option, Some, None, List, [], ◌∷◌}
 use Rattle.std.specs.Prelude.{◌++◌, length, take, filter, count_by, slice_get, slice_index, codes, decimal}
@@ -12,20 +12,20 @@ use Rattle.mltl_base.specs.declared.program.Program.{Program}
 use Rattle.mltl_base.specs.declared.program.StoredSignal.{StoredSignal}
 use Rattle.obs_show.specs.Lines.{Reference, always, named, number}
 
--- an operation, which gets a defined name: it is neither the read of a column nor a constant
+-- the instruction is an operation, which gets a defined name: it neither reads a column nor is a constant
 abbrev pub is_operation : bz.BzOp → Bool
 is_operation (bz.TheVariants.Column c) = false
 is_operation (bz.TheVariants.IsTrue c) = false
 is_operation (bz.TheVariants.Const n) = false
 is_operation op = true
 
--- the same of future time: it isn't true and loads nothing
+-- the instruction of future time is an operation: it isn't true and loads nothing
 abbrev pub is_future_operation : ft.FtOp → Bool
 is_future_operation ft.TheVariants.True = false
 is_future_operation (ft.TheVariants.Load a) = false
 is_future_operation op = true
 
--- the same of past time
+-- the instruction of past time is an operation: it isn't true and loads nothing
 abbrev pub is_past_operation : pt.PtOp → Bool
 is_past_operation pt.TheVariants.True = false
 is_past_operation (pt.TheVariants.Load a) = false
@@ -51,7 +51,7 @@ operations program = bz_operations program.bz + ft_operations program.ft + pt_op
 abbrev pub numbered_name : ℕ → List ℕ
 numbered_name n = codes "d" ++ decimal n
 
--- a signal has this name
+-- true if a signal has this name
 abbrev pub is_signal_name : List StoredSignal → List ℕ → Bool
 is_signal_name signals name = list_any (λ signal. bytes_eq name signal.name) signals
 
@@ -64,15 +64,15 @@ free_numbers signals needed =
 abbrev pub defined_name : Program → ℕ → List ℕ
 defined_name program k = numbered_name (slice_index (free_numbers program.signals (operations program)) k)
 
--- the defined names of instruction i: the operations before it have the names before its own
+-- the defined name of instruction i of the Booleanizer: the operations before it have the names before its own
 abbrev pub bz_name : Program → ℕ → List ℕ
 bz_name program i = defined_name program (bz_operations (take i program.bz))
 
--- those of future time follow the Booleanizer's
+-- the defined name of instruction i of future time: these names follow the Booleanizer's
 abbrev pub ft_name : Program → ℕ → List ℕ
 ft_name program i = defined_name program (bz_operations program.bz + ft_operations (take i program.ft))
 
--- those of past time follow the ones of future time
+-- the defined name of instruction i of past time: these names follow the names of future time
 abbrev pub pt_name : Program → ℕ → List ℕ
 pt_name program i =
     defined_name program (bz_operations program.bz + ft_operations program.ft + pt_operations (take i program.pt))
@@ -82,7 +82,7 @@ abbrev pub name_in : List StoredSignal → ℕ → List ℕ
 name_in [] c = []
 name_in (signal ∷ signals) c = if signal.column == c then signal.name else name_in signals c
 
--- what instruction i of the Booleanizer is called: a column by its signal, a constant by its value
+-- the reference to an instruction of the Booleanizer: a column by its signal, a constant by its value
 abbrev pub bz_called : Program → ℕ → Option bz.BzOp → Reference
 bz_called program i None = always
 bz_called program i (Some (bz.TheVariants.Column c)) = named (name_in program.signals c)
@@ -94,7 +94,7 @@ bz_called program i (Some op) = named (bz_name program i)
 abbrev pub bz_reference : Program → ℕ → Reference
 bz_reference program i = bz_called program i (slice_get program.bz i)
 
--- what instruction i of future time is called: a loaded truth as in the Booleanizer
+-- the reference to an instruction of future time: a loaded Boolean as in the Booleanizer
 abbrev pub ft_called : Program → ℕ → Option ft.FtOp → Reference
 ft_called program i None = always
 ft_called program i (Some ft.TheVariants.True) = always
@@ -105,7 +105,7 @@ ft_called program i (Some op) = named (ft_name program i)
 abbrev pub ft_reference : Program → ℕ → Reference
 ft_reference program i = ft_called program i (slice_get program.ft i)
 
--- what instruction i of past time is called, in the same way
+-- the reference to an instruction of past time: a loaded Boolean as in the Booleanizer
 abbrev pub pt_called : Program → ℕ → Option pt.PtOp → Reference
 pt_called program i None = always
 pt_called program i (Some pt.TheVariants.True) = always

@@ -98,11 +98,11 @@ ft_record program i op = codes "ft" ∷ decimal i ∷ ft_fields op ++ ft_figure_
 abbrev pub pt_record : Program → ℕ → PtOp → List Field
 pt_record program i op = codes "pt" ∷ decimal i ∷ pt_fields op ++ pt_figure_fields program i
 
--- the records of instructions in order, which are numbered from 0
+-- the records of instructions in order, numbered from 0
 abbrev pub numbered : {X : Type 0} → (ℕ → X → List Field) → List X → List (List Field)
 numbered record_of ops = map (λ p. record_of p.0 p.1) (enumerate_from 0 ops)
 
--- the records of a program: the Booleanizer's, then future time's, then past time's
+-- the records of a program: first of the Booleanizer, then of future time, then of past time
 abbrev pub records : Program → List (List Field)
 records program = numbered bz_record program.bz
     ++ (numbered (ft_record program) program.ft ++ numbered (pt_record program) program.pt)

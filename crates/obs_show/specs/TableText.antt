@@ -1,4 +1,4 @@
--- How the code holds fields and lines before they are written.
+-- The fields and lines that the code holds before they are written.
 
 use Rattle.std.specs.Prelude.{◌≡◌, ℕ, false, Option, Some, None, List, [], ◌∷◌, ◌++◌, decimal}
 use Rattle.std.specs.Fmt.{signed_decimal}
@@ -8,7 +8,7 @@ use Rattle.obs_show.specs.declared.table_fields.Figures.{Figures}
 use Rattle.obs_show.specs.declared.table_lines.Lines.{Lines}
 use Rattle.obs_show.specs.Table.{Field}
 
--- the field of a number that an instruction may have
+-- the field of a number, or an empty field
 abbrev pub field_of : {X : Type 0} → (X → Field) → Option X → Field
 field_of text None = []
 field_of text (Some n) = text n

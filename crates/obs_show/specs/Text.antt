@@ -1,4 +1,4 @@
--- A program as the text of a specification: its lines, and how each is written.
+-- A program as the text of a specification: its lines, and the text of each.
 
 use Rattle.std.specs.Prelude.{ℕ, Bool, true, false, if◌then◌else◌, Option, Some, None, List, [], ◌++◌, map, option_map}
 use Rattle.std.specs.Prelude.{codes, decimal}
@@ -65,19 +65,19 @@ pt_form program op = None
 abbrev pub signal_line : StoredSignal → Line
 signal_line signal = input signal.name signal.truth
 
--- the line of instruction i of the Booleanizer: other instructions than operations have none
+-- the line of instruction i of the Booleanizer, if it is an operation
 abbrev pub bz_line : Program → ℕ → bz.BzOp → Option Line
 bz_line program i op = option_map (define (bz_name program i)) (bz_form program op)
 
--- the line of instruction i of future time
+-- the line of instruction i of future time, if it is an operation
 abbrev pub ft_line : Program → ℕ → ft.FtOp → Option Line
 ft_line program i op = option_map (define (ft_name program i)) (ft_form program op)
 
--- the line of instruction i of past time
+-- the line of instruction i of past time, if it is an operation
 abbrev pub pt_line : Program → ℕ → pt.PtOp → Option Line
 pt_line program i op = option_map (define (pt_name program i)) (pt_form program op)
 
--- the label of output k: its name, where that isn't the output's number
+-- the label of output k: its name, if that isn't the output's number
 abbrev pub shown_label : ℕ → List ℕ → Option (List ℕ)
 shown_label k name = if bytes_eq name (decimal k) then None else Some name
 
@@ -93,7 +93,7 @@ output_line program k (out.TheVariants.Formula engine i name) =
 output_line program k (out.TheVariants.Contract engine i j name) =
     contract engine (shown_label k name) (reference_in program engine i) (reference_in program engine j)
 
--- the lines that a rule gives to members with their numbers, which count from 0
+-- the lines that a rule gives to members, numbered from 0
 abbrev pub numbered_lines : {X : Type 0} → (ℕ → X → Option Line) → List X → List Line
 numbered_lines rule xs = filter_map (λ p. rule p.0 p.1) (enumerate_from 0 xs)
 
@@ -110,13 +110,13 @@ shown_lines program =
     ++ (numbered_lines (pt_line program) program.pt
     ++ output_lines program program.outs)))
 
--- how a reference is written
+-- the text of a reference
 abbrev pub reference_text : Reference → List ℕ
 reference_text always = codes "true"
 reference_text (named name) = name
 reference_text (number n) = signed_decimal n
 
--- how an operator between integers is written
+-- the text of an operator between integers
 abbrev pub arith_text : arith_op.ArithOp → List ℕ
 arith_text arith_op.TheVariants.Add = codes "+"
 arith_text arith_op.TheVariants.Sub = codes "-"
@@ -124,7 +124,7 @@ arith_text arith_op.TheVariants.Mul = codes "*"
 arith_text arith_op.TheVariants.Div = codes "/"
 arith_text arith_op.TheVariants.Rem = codes "%"
 
--- how a comparison is written
+-- the text of a comparison
 abbrev pub compare_text : compare_op.CompareOp → List ℕ
 compare_text compare_op.TheVariants.Eq = codes "=="
 compare_text compare_op.TheVariants.Ne = codes "!="
@@ -133,7 +133,7 @@ compare_text compare_op.TheVariants.Le = codes "<="
 compare_text compare_op.TheVariants.Gt = codes ">"
 compare_text compare_op.TheVariants.Ge = codes ">="
 
--- how an operator between formulas is written
+-- the text of an operator between formulas
 abbrev pub logic_text : logic_op.LogicOp → List ℕ
 logic_text logic_op.TheVariants.And = codes "&&"
 logic_text logic_op.TheVariants.Or = codes "||"
@@ -146,7 +146,7 @@ between_text between_op.TheVariants.U = codes "U"
 between_text between_op.TheVariants.R = codes "R"
 between_text between_op.TheVariants.S = codes "S"
 
--- how an interval is written
+-- the text of an interval
 abbrev pub interval_text : Interval → List ℕ
 interval_text window = codes "[" ++ decimal window.lo ++ codes "," ++ decimal window.hi ++ codes "]"
 
@@ -154,7 +154,7 @@ interval_text window = codes "[" ++ decimal window.lo ++ codes "," ++ decimal wi
 abbrev pub spaced : Reference → List ℕ → Reference → List ℕ
 spaced x operator y = reference_text x ++ codes " " ++ operator ++ codes " " ++ reference_text y
 
--- how a form is written
+-- the text of a form
 abbrev pub form_text : Form → List ℕ
 form_text (minus x) = codes "-" ++ reference_text x
 form_text (arith op x y) = spaced x (arith_text op) y
@@ -163,7 +163,7 @@ form_text (negation x) = codes "!" ++ reference_text x
 form_text (logic op x y) = spaced x (logic_text op) y
 form_text (between op window x y) = spaced x (between_text op ++ interval_text window) y
 
--- how a signal's kind is written
+-- the text of a signal's kind
 abbrev pub kind_text : Bool → List ℕ
 kind_text true = codes "bool"
 kind_text false = codes "int"
@@ -173,12 +173,12 @@ abbrev pub section_text : Engine → List ℕ
 section_text Ft = codes "FTSPEC"
 section_text Pt = codes "PTSPEC"
 
--- a label with what parts it from the formula, or nothing
+-- the label and its separator from the formula, or nothing
 abbrev pub label_text : Option (List ℕ) → List ℕ
 label_text None = []
 label_text (Some name) = name ++ codes ": "
 
--- how a line is written, with its newline
+-- the text of a line, with its newline
 abbrev pub shown_line : Line → List ℕ
 shown_line (input name truth) = codes "INPUT " ++ name ++ codes ": " ++ kind_text truth ++ codes ";\n"
 shown_line (define name form) = codes "DEFINE " ++ name ++ codes " := " ++ form_text form ++ codes ";\n"
@@ -188,7 +188,7 @@ shown_line (contract engine label x y) =
     section_text engine ++ codes " " ++ label_text label ++ reference_text x ++ codes " => " ++ reference_text y
     ++ codes ";\n"
 
--- how lines are written, one after the other
+-- the text of lines, joined
 abbrev pub lines_text : List Line → List ℕ
 lines_text ls = flat_map shown_line ls
 

@@ -1,4 +1,4 @@
--- How a pass over instructions weighs them, each from those before it.
+-- The weights of instructions, computed in one pass, each from the weights before it.
 
 use Rattle.std.specs.Prelude.{ℕ, ◌+◌, min, List, map, slice_index}
 use Rattle.mltl_base.specs.declared.interval.Engine.{Engine}
@@ -13,7 +13,7 @@ use Rattle.mltl_base.specs.Formula.{plain}
 use Rattle.mltl_base.specs.Programs.{Expression, whole, truth, cores_of, expressions}
 use Rattle.obs_show.specs.Weight.{atom_weight, formula_weight, term_weight}
 
--- a weight, or one past the limit where it is above the limit
+-- a weight, or one past the limit if it is above the limit
 abbrev pub capped : ℕ → ℕ
 capped n = min n (MAX_WEIGHT + 1)
 
@@ -21,7 +21,7 @@ capped n = min n (MAX_WEIGHT + 1)
 abbrev pub operator_weight : ℕ → ℕ → ℕ
 operator_weight left right = capped (1 + left + right)
 
--- the leaves and operators of what an instruction of the Booleanizer represents
+-- the leaves and operators of the expression of an instruction of the Booleanizer
 abbrev pub expression_weight : Expression → ℕ
 expression_weight (whole e) = term_weight e
 expression_weight (truth a) = atom_weight a
@@ -34,7 +34,7 @@ expression_weights program = map (λ e. capped (expression_weight e)) (expressio
 abbrev pub formula_weights : Program → Engine → List ℕ
 formula_weights program engine = map (λ p. capped (formula_weight (plain p))) (cores_of program engine)
 
--- the weight of an instruction of the Booleanizer, from those before it
+-- the weight of an instruction of the Booleanizer, from the weights before it
 abbrev pub bz_weight : List ℕ → bz.BzOp → ℕ
 bz_weight before (bz.TheVariants.Column c) = 1
 bz_weight before (bz.TheVariants.IsTrue c) = 1
@@ -49,7 +49,7 @@ bz_weight before (bz.TheVariants.Eq a b) = operator_weight (slice_index before a
 bz_weight before (bz.TheVariants.Lt a b) = operator_weight (slice_index before a) (slice_index before b)
 bz_weight before (bz.TheVariants.Le a b) = operator_weight (slice_index before a) (slice_index before b)
 
--- the weight of a future-time instruction, from those of the Booleans that it may load and of the instructions before
+-- the weight of a future-time instruction, from the weights of the Booleans that it may load and of the instructions before
 -- it
 abbrev pub ft_weight : List ℕ → List ℕ → ft.FtOp → ℕ
 ft_weight loaded before ft.TheVariants.True = 1
@@ -59,7 +59,7 @@ ft_weight loaded before (ft.TheVariants.And l r) = operator_weight (slice_index 
 ft_weight loaded before (ft.TheVariants.Until l r window) =
     operator_weight (slice_index before l) (slice_index before r)
 
--- the weight of a past-time instruction, in the same way
+-- the weight of a past-time instruction, from the weights of the Booleans that it may load and of the instructions before it
 abbrev pub pt_weight : List ℕ → List ℕ → pt.PtOp → ℕ
 pt_weight loaded before pt.TheVariants.True = 1
 pt_weight loaded before (pt.TheVariants.Load a) = slice_index loaded a
@@ -68,7 +68,7 @@ pt_weight loaded before (pt.TheVariants.And l r) = operator_weight (slice_index 
 pt_weight loaded before (pt.TheVariants.Since l r window) =
     operator_weight (slice_index before l) (slice_index before r)
 
--- the weight of an output, from those of the instructions of both engines
+-- the weight of an output, from the weights of the instructions of both engines
 abbrev pub out_weight : List ℕ → List ℕ → out.Out → ℕ
 out_weight future past (out.TheVariants.Formula Ft g name) = slice_index future g
 out_weight future past (out.TheVariants.Formula Pt g name) = slice_index past g

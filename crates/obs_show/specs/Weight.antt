@@ -1,5 +1,5 @@
--- How much an observer program weighs: the leaves and operators of its outputs as trees, in which a shared
--- instruction counts once for each reader.
+-- The weight of an observer program: the leaves and operators of its outputs as trees, in which a shared instruction counts
+-- once for each reader.
 
 use Rattle.std.specs.Prelude.{ℕ, ◌+◌}
 use Rattle.std.specs.List.{sum_by}
@@ -32,7 +32,7 @@ atom_weight (different a b) = 1 + term_weight a + term_weight b
 atom_weight (greater a b) = 1 + term_weight a + term_weight b
 atom_weight (at_least a b) = 1 + term_weight a + term_weight b
 
--- the leaves and operators of a formula, those of its expressions included
+-- the leaves and operators of a formula and its expressions
 unfoldable pub formula_weight : Formula → ℕ
 formula_weight truth = 1
 formula_weight falsity = 1
@@ -50,7 +50,7 @@ formula_weight (once i p) = 1 + formula_weight p
 formula_weight (historically i p) = 1 + formula_weight p
 formula_weight (since i p q) = 1 + formula_weight p + formula_weight q
 
--- the weight of an output: that of its formula, or of both formulas of a contract
+-- the weight of an output: its formula, or both formulas of a contract
 abbrev pub output_weight : Output → ℕ
 output_weight (formula p) = formula_weight p
 output_weight (contract p q) = formula_weight p + formula_weight q

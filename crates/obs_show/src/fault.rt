@@ -1,15 +1,15 @@
-//! Why a program isn't shown.
+//! Faults of programs that can't be shown.
 
 ghost use Rattle.std.specs.Prelude.{◌≡◌};
 
 use std::alloc::AllocError;
 
-/// Why a program has no text.
+/// The reason why a program has no text.
 #[derive(Clone, Copy)]
 pub enum ShowFault {
-    /// The text has more bytes than one may have.
+    /// The text has more bytes than the limit.
     TooLong,
-    /// The outputs weigh more, as trees, than a specification may.
+    /// The outputs weigh more, as trees, than the outputs of a specification may.
     Wide,
     Memory,
 }

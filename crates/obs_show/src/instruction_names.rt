@@ -1,4 +1,4 @@
-//! What the instructions of a program are called.
+//! Defined names of the instructions of a program.
 
 ghost use Rattle.std.specs.Prelude.{◌≡◌, ◌+◌, ◌<◌, ◌^◌, IfOk, OnOk, count_by, length};
 ghost use Rattle.obs_show.specs.Showing.{AreBefore, NamesAll};
@@ -14,13 +14,14 @@ use std::alloc::{AllocError, Global};
 pub(crate) struct Naming {
     /// The numbers of the defined names, in the order of the operations that have them.
     pub(crate) numbers: Vec<usize>,
-    /// For each instruction of a part, how many operations of the program come before it.
+    /// The number of operations of the program before each instruction of a part.
     pub(crate) bz: Vec<usize>,
     pub(crate) ft: Vec<usize>,
     pub(crate) pt: Vec<usize>,
 }
 
-/// For each instruction, how many operations of the program come before it. The number of all so far is kept.
+/// Returns, for each instruction, the number of operations before it in the program. `next` counts
+/// them all.
 fn operations_before<T: Instruction>(
     alloc: Global,
     next: &mut usize,
@@ -41,7 +42,7 @@ fn operations_before<T: Instruction>(
 }
 
 impl Naming {
-    /// What the instructions of a program are called.
+    /// Returns the defined names of a program.
     pub(crate) fn of(alloc: Global, program: &Program) -> Result<Naming, AllocError>
         requires { HasLayout program.now }
         ensures { IfOk result (λ naming. NamesAll program.now naming) }

@@ -258,7 +258,7 @@ impl Shown for PtOp {
     }
 }
 
-/// Adds the section of an output, and its label where its name isn't its number.
+/// Adds the section of an output, and its label if its name isn't its number.
 fn begin_output(text: &mut Vec<u8>, engine: Engine, k: usize, name: &Name) -> Result<(), AllocError>
     ensures { OnOk result (text.new.items ≡ text.old.items
         ++ (section_text engine ++ codes " " ++ label_text (shown_label k name.now))) }
@@ -275,7 +275,7 @@ fn begin_output(text: &mut Vec<u8>, engine: Engine, k: usize, name: &Name) -> Re
     text.extend_from_slice(b": ")
 }
 
-/// The part of a program whose instructions an engine evaluates.
+/// Returns the part of a program whose instructions an engine evaluates.
 fn part_of(engine: Engine) -> Part
     ensures { (program : Observer) (i : ℕ)
         → reference_at program result i ≡ reference_in program engine i }

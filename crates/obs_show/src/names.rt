@@ -1,4 +1,4 @@
-//! Defined names: d0, d1, d2 and so on, without those that are names of signals.
+//! Defined names: d0, d1, d2 and so on, except names of signals.
 
 ghost use Rattle.std.specs.Prelude.{◌≡◌, ◌<◌, ◌^◌, ◌++◌, ℕ, List, IfOk, OnOk, decimal, length};
 ghost use Rattle.obs_verify.specs.Kinds.{has_name};
@@ -25,7 +25,7 @@ pub(crate) fn add_name(text: &mut Vec<u8>, n: usize) -> Result<(), AllocError>
     add_number(text, n)
 }
 
-/// The names of signals.
+/// Returns the names of signals.
 fn signal_names(alloc: Global, signals: &[StoredSignal]) -> Result<BTreeSet<Vec<u8>>, AllocError>
     ensures { IfOk result (λ names. (name : List ℕ)
         → has_name names name ≡ is_signal_name signals.now name) }

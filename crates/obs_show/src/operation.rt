@@ -1,4 +1,4 @@
-//! Instructions that are operations, each of which is shown as a separate line.
+//! Operations: instructions that get a line each.
 
 ghost use Rattle.std.specs.Prelude.{◌≡◌, Bool};
 ghost use Rattle.obs_show.specs.Naming.{is_future_operation, is_operation, is_past_operation};
@@ -9,7 +9,7 @@ use mltl_base::{BzOp, FtOp, PtOp};
 pub(crate) trait Instruction {
     ghost operation: { Self → Bool };
 
-    /// Whether it is an operation, which gets a defined name.
+    /// Returns true if it is an operation, which gets a defined name.
     fn is_operation(&self) -> bool
         ensures { result ≡ operation self.now };
 }

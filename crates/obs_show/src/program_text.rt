@@ -11,12 +11,13 @@ use mltl_base::limits::MAX_WEIGHT;
 use obs_verify::Checked;
 use std::alloc::Global;
 
-/// A program as the text of a specification: a line for each signal, for each operation of each part, which gets a
-/// defined name, and for each output.
+/// Returns a program as the text of a specification: a line for each signal, for each operation of
+/// each part, which gets a defined name, and for each output.
 ///
 /// # Errors
 ///
-/// The text has more than 1,048,576 bytes, or else the outputs together weigh more than 65,536, or out of memory.
+/// The text has more than 1,048,576 bytes, else the outputs weigh more than 65,536, or out of
+/// memory.
 pub fn show(alloc: Global, checked: &Checked) -> Result<Vec<u8>, ShowFault>
     requires version { checked.now.version ≡ 2 }
     ensures text { IfOk result (λ bytes. bytes.items ≡ text_of checked.now) }

@@ -12,8 +12,8 @@ use mltl_base::{BzOp, FtOp, Part, PtOp};
 use obs_verify::Checked;
 use std::alloc::AllocError;
 
-/// Adds the reference to instruction `i` of a part. One that isn't there is shown as true; a well-formed program refers
-/// to no such instruction.
+/// Adds the reference to instruction `i` of a part, or `true` if there is none. A well-formed
+/// program never refers to a missing instruction.
 pub(crate) fn add_reference(
     text: &mut Vec<u8>,
     checked: &Checked,
@@ -48,7 +48,7 @@ fn add_bz(
     }
 }
 
-/// Adds what an instruction of the Booleanizer is called.
+/// Adds the reference to an instruction of the Booleanizer.
 #[tactic(auto, using(crate::proofs::NumberLaws::read_at))]
 fn add_bz_call(
     text: &mut Vec<u8>,
@@ -93,7 +93,7 @@ fn add_ft(
     }
 }
 
-/// Adds what an instruction of future time is called.
+/// Adds the reference to an instruction of future time.
 fn add_ft_call(
     text: &mut Vec<u8>,
     checked: &Checked,
@@ -131,7 +131,7 @@ fn add_pt(
     }
 }
 
-/// Adds what an instruction of past time is called.
+/// Adds the reference to an instruction of past time.
 fn add_pt_call(
     text: &mut Vec<u8>,
     checked: &Checked,
@@ -153,8 +153,8 @@ fn add_pt_call(
     }
 }
 
-/// Adds the name of the signal that instruction `i` reads, which is in a column; nothing where there is none, which a
-/// well-formed program doesn't read.
+/// Adds the name of the signal that instruction `i` reads in its column, or nothing if there is
+/// none. A well-formed program reads no such column.
 #[tactic(auto, using(crate::proofs::NumberLaws::name_of_number, obs_verify::proofs::ReaderLaws::number_inside))]
 fn add_signal_name(
     text: &mut Vec<u8>,

@@ -1,4 +1,4 @@
-//! What is shown as a line of a program: signals, instructions and outputs.
+//! Members of a program with a line in its text: signals, instructions and outputs.
 
 ghost use Rattle.std.specs.Prelude.{◌≡◌, ◌++◌, ◌<◌, ℕ, List, OnOk, length};
 ghost use Rattle.mltl_base.specs.declared.program.Program.{Program as Observer};
@@ -8,7 +8,7 @@ use crate::instruction_names::Naming;
 use obs_verify::Checked;
 use std::alloc::AllocError;
 
-/// A member of a program that has a line, or none where it isn't an operation.
+/// A member of a program. An instruction has a line only if it is an operation.
 pub(crate) trait Shown {
     ghost members: { Observer → List Self };
 

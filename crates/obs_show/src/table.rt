@@ -9,8 +9,9 @@ use crate::table_lines::Lines;
 use obs_verify::Checked;
 use std::alloc::{AllocError, Global};
 
-/// The instruction table of a program: a first line with the names of the columns, then a line for each instruction of
-/// the Booleanizer, of future time and of past time, in order. A field that doesn't apply is empty.
+/// Returns the instruction table of a program: a first line with the names of the columns, then a
+/// line for each instruction of the Booleanizer, of future time and of past time, in order. A field
+/// that doesn't apply is empty.
 ///
 /// # Errors
 ///
@@ -26,14 +27,14 @@ pub fn instruction_table(alloc: Global, checked: &Checked) -> Result<Vec<u8>, Al
     lines.into_text()
 }
 
-/// An instruction of the Booleanizer has neither delays nor a size.
+/// The figures of a Booleanizer instruction, which has neither delays nor a size.
 const NO_FIGURES: Figures = Figures {
     best: None,
     worst: None,
     size: None,
 };
 
-/// The delays and the slots of future-time instruction `i`.
+/// Returns the delays and the slots of future-time instruction `i`.
 fn ft_figures(checked: &Checked, i: usize) -> Figures
     requires { i < length checked.now.ft }
     ensures { figure_fields result ≡ ft_figure_fields checked.now i }
@@ -48,7 +49,7 @@ fn ft_figures(checked: &Checked, i: usize) -> Figures
     }
 }
 
-/// The boxes of past-time instruction `i`.
+/// Returns the boxes of past-time instruction `i`.
 fn pt_figures(checked: &Checked, i: usize) -> Figures
     requires { i < length checked.now.pt }
     ensures { figure_fields result ≡ pt_figure_fields checked.now i }

@@ -1,4 +1,4 @@
-//! What a line of the table shows of an instruction.
+//! Fields of an instruction in a line of the table.
 
 ghost use Rattle.std.specs.Prelude.{◌≡◌, decimal};
 ghost use Rattle.std.specs.Fmt.{signed_decimal};
@@ -7,7 +7,7 @@ ghost use Rattle.obs_show.specs.Table.{bare, binary_fields, bz_fields, ft_fields
 
 use mltl_base::{BzOp, FtOp, Interval, PtOp};
 
-/// The name of an instruction, its operands and the bounds of its interval, each where it has one.
+/// The name of an instruction, its operands and the bounds of its interval, if it has them.
 #[derive(Clone, Copy)]
 pub(crate) struct Shown {
     pub(crate) name: &'static str,
@@ -18,7 +18,7 @@ pub(crate) struct Shown {
     pub(crate) high: Option<u32>,
 }
 
-/// The delays of an instruction in rows, and its slots or boxes, each where it has one.
+/// The delays of an instruction in rows, and its slots or boxes, if it has them.
 #[derive(Clone, Copy)]
 pub(crate) struct Figures {
     pub(crate) best: Option<u32>,

@@ -1,4 +1,4 @@
-//! Writing lines of fields as comma-separated values.
+//! Lines of fields as comma-separated values.
 
 ghost use Rattle.std.specs.Prelude.{◌≡◌, [], ◌∷◌, ◌++◌, List, ℕ, decimal, IfOk, OnOk};
 ghost use Rattle.csv.specs.Records.{fields_of, partial_of};
@@ -11,7 +11,7 @@ use csv::{ByteRecord, Writer};
 use itoa::{Buffer, Integer};
 use std::alloc::{AllocError, Global};
 
-/// Puts a number after the fields of a row; an empty field where there is none.
+/// Appends a number to the fields of a row, or an empty field for `None`.
 fn push_number<I: Integer>(row: &mut ByteRecord, number: Option<I>) -> Result<(), AllocError>
     requires { partial_of row.old ≡ [] }
     ensures fields { OnOk result
@@ -24,7 +24,7 @@ fn push_number<I: Integer>(row: &mut ByteRecord, number: Option<I>) -> Result<()
     }
 }
 
-/// Gives a row the fields of a line.
+/// Fills a row with the fields of a line.
 fn fill(
     row: &mut ByteRecord,
     engine: &str,
@@ -48,16 +48,16 @@ fn fill(
     push_number(row, figures.size)
 }
 
-/// The lines of a table, which are written in memory.
+/// The lines of a table, written in memory.
 #[derive(Drop)]
 pub(crate) struct Lines {
     writer: Writer<Vec<u8>>,
-    /// The fields of the last line. The next one uses their memory again.
+    /// The fields of the last line. The next line uses their memory again.
     row: ByteRecord,
 }
 
 impl Lines {
-    /// No lines.
+    /// Creates a table without lines.
     pub(crate) fn new(alloc: Global) -> Lines
         ensures { HasText result [] }
     {
@@ -105,7 +105,7 @@ impl Lines {
             .map_err(|_| AllocError)
     }
 
-    /// The text of the lines.
+    /// Returns the text of the lines.
     pub(crate) fn into_text(self) -> Result<Vec<u8>, AllocError>
         ensures { (text : List ℕ) → HasText self text → IfOk result (λ bytes. bytes.items ≡ text) }
     {

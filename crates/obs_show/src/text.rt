@@ -13,7 +13,7 @@ use mltl_base::limits::MAX_SHOWN_BYTES;
 use obs_verify::Checked;
 use std::alloc::Global;
 
-/// The text of a program, if it isn't too long.
+/// Returns the text of a program, if it isn't too long.
 pub(crate) fn write(alloc: Global, checked: &Checked) -> Result<Vec<u8>, ShowFault>
     ensures text { IfOk result (λ bytes. bytes.items ≡ text_of checked.now) }
     ensures short { OnOk result (length (text_of checked.now) ≤ MAX_SHOWN_BYTES) }
@@ -31,7 +31,7 @@ pub(crate) fn write(alloc: Global, checked: &Checked) -> Result<Vec<u8>, ShowFau
     Ok(text)
 }
 
-/// Adds the lines of all members of one kind, as long as the text isn't too long.
+/// Adds the lines of all members of one kind, unless the text becomes too long.
 fn add_all<T: Shown>(
     text: &mut Vec<u8>,
     checked: &Checked,

@@ -19,8 +19,8 @@ use std::alloc::{AllocError, Global};
 /// One past the limit, which represents every weight above the limit.
 const ABOVE: u32 = MAX_WEIGHT + 1;
 
-/// Returns the weight of a program: the leaves and operators of its outputs as trees, all together. Above the limit
-/// of 65,536 it is 65,537.
+/// Returns the weight of a program: the leaves and operators of all its outputs as trees, or 65,537
+/// above the limit of 65,536.
 pub fn weight(alloc: Global, checked: &Checked) -> Result<u32, AllocError>
     ensures { IfOk result (λ found. found ≡ capped (weight_of checked.now)) }
 {
@@ -30,21 +30,21 @@ pub fn weight(alloc: Global, checked: &Checked) -> Result<u32, AllocError>
     Ok(outputs_weight(checked, &ft, &pt))
 }
 
-/// Two weights together.
+/// Adds two weights.
 fn both(left: u32, right: u32) -> u32
     ensures { result ≡ capped (left + right) }
 {
     left.saturating_add(right).min(ABOVE)
 }
 
-/// The weight of an operator over two operands.
+/// Returns the weight of an operator over two operands.
 fn joined(left: u32, right: u32) -> u32
     ensures { result ≡ weight_joined left right }
 {
     left.saturating_add(right).saturating_add(1).min(ABOVE)
 }
 
-/// The weights of the Booleanizer's instructions.
+/// Returns the weights of the Booleanizer's instructions.
 fn bz_weights(alloc: Global, checked: &Checked) -> Result<Vec<u32>, AllocError>
     ensures { IfOk result (λ weights. weights.items ≡ expression_weights checked.now) }
 {
@@ -74,7 +74,8 @@ fn bz_weight(op: &BzOp, before: &[u32]) -> u32
     }
 }
 
-/// Returns the weights of the future-time instructions, from those of the Booleans that they load.
+/// Returns the weights of the future-time instructions, from the weights of the Booleans that they
+/// load.
 fn ft_weights(alloc: Global, checked: &Checked, loaded: &[u32]) -> Result<Vec<u32>, AllocError>
     requires { loaded.now ≡ expression_weights checked.now }
     ensures { IfOk result (λ weights. weights.items ≡ formula_weights checked.now Ft) }
@@ -100,7 +101,8 @@ fn ft_weight(op: &FtOp, loaded: &[u32], before: &[u32]) -> u32
     }
 }
 
-/// The weights of the past-time instructions, in the same way.
+/// Returns the weights of the past-time instructions, from the weights of the Booleans that they
+/// load.
 fn pt_weights(alloc: Global, checked: &Checked, loaded: &[u32]) -> Result<Vec<u32>, AllocError>
     requires { loaded.now ≡ expression_weights checked.now }
     ensures { IfOk result (λ weights. weights.items ≡ formula_weights checked.now Pt) }
@@ -126,7 +128,7 @@ fn pt_weight(op: &PtOp, loaded: &[u32], before: &[u32]) -> u32
     }
 }
 
-/// The weights of all outputs together, from those of the instructions of both engines.
+/// Returns the weight of all outputs, from the weights of the instructions of both engines.
 fn outputs_weight(checked: &Checked, ft: &[u32], pt: &[u32]) -> u32
     requires future { ft.now ≡ formula_weights checked.now Ft }
     requires past { pt.now ≡ formula_weights checked.now Pt }
