@@ -1,4 +1,4 @@
-//! The files that a script gives.
+//! The files of a script.
 
 use crate::piece::{Piece, hex_bytes, numbered};
 use anyhow::{Context, Result, bail};
@@ -11,7 +11,7 @@ pub struct NamedBytes {
     pub bytes: Vec<u8>,
 }
 
-/// Files by name. A script appends to the one that was begun last.
+/// Files by name. A script appends to the file that was begun last.
 #[derive(Drop)]
 pub struct Files {
     alloc: Global,
@@ -46,7 +46,7 @@ impl Files {
         Ok(())
     }
 
-    /// The bytes of the file that was begun last.
+    /// Returns the bytes of the file that was begun last.
     fn last(&mut self) -> Result<&mut Vec<u8>> {
         match self.entries.last_mut() {
             Some(entry) => Ok(&mut entry.bytes),
@@ -54,7 +54,7 @@ impl Files {
         }
     }
 
-    /// Goes on with these bytes.
+    /// Appends bytes to the file that was begun last.
     pub fn add(&mut self, bytes: &[u8]) -> Result<()> {
         self.last()?.extend_from_slice(bytes)?;
         Ok(())
@@ -70,14 +70,14 @@ impl Files {
         Ok(())
     }
 
-    /// Gives the byte at a place another value.
+    /// Sets the byte at a place to another value.
     pub fn set(&mut self, place: usize, byte: u8) -> Result<()> {
         let old = self.last()?.get_mut(place).context("no such place")?;
         *old = byte;
         Ok(())
     }
 
-    /// The bytes of the file of this name.
+    /// Returns the bytes of the file of this name.
     pub fn find(&self, name: &str) -> Option<&[u8]> {
         for entry in &self.entries {
             if entry.name.as_str() == name {

@@ -9,7 +9,7 @@ use crate::setting::Setting;
 use std::alloc::{AllocError, Global};
 use tool_io::{Host, MemHost};
 
-/// Puts the files into a host of which no place is attached.
+/// Puts the files into a host that has no attached place.
 fn put_files(host: &mut MemHost, files: &[NamedBytes]) -> Result<(), AllocError>
     requires unread { host.old.store.readings ≡ no_files.readings }
     ensures still { OnOk result (host.new.store.readings ≡ no_files.readings) }
@@ -20,7 +20,8 @@ fn put_files(host: &mut MemHost, files: &[NamedBytes]) -> Result<(), AllocError>
     Ok(())
 }
 
-/// Makes the host of a run, with the files of its case in place of those of all cases.
+/// Makes the host of a run, with the files of all cases and then the files of its own case, which
+/// replace files of the same name.
 pub fn host_of(alloc: Global, scenes: &Scenes, setting: Setting) -> Result<MemHost, AllocError> {
     let mut host = MemHost::make(alloc, scenes.room.events, scenes.room.bytes)?;
     put_files(&mut host, scenes.common.files.as_slice())?;

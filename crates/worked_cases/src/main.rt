@@ -1,9 +1,9 @@
-//! Worked cases of both programs, and of the plain program that computes the definitions: a script on the standard input
-//! says what runs over files in memory are to give.
+//! Worked cases of both programs, and of the plain program that computes the definitions. A script
+//! on the standard input has the expected results of runs over files in memory.
 //!
-//! The script explains its form at its head. Each difference is printed with the name and the line of its case, and
-//! at the end whether all cases agree; the numbers of cases and runs go to the error output, so that a new case
-//! changes no stored output.
+//! The script explains its form at its head. Each difference is printed with the name and the line
+//! of its case, and at the end a line says if all cases agree. The numbers of cases and runs go to
+//! the error output, so that a new case changes no stored output.
 #![tactic(auto)]
 
 mod files;

@@ -1,13 +1,14 @@
-//! After which line of its trace each line of an output is out.
+//! The number of lines of a trace that are read before each line of an output is out.
 
-/// A line of an output: how many lines of the trace are read before it is out, and where it ends in the output.
+/// A line of an output: the number of lines of the trace that are read before it is out, and its
+/// end in the output.
 #[derive(Clone, Copy)]
 pub struct Told {
     pub lines: usize,
     pub end: usize,
 }
 
-/// Returns what an output holds after `lines` lines of the trace are read.
+/// Returns the part of an output that is out after `lines` lines of the trace are read.
 pub fn out_after<'a>(told: &[Told], lines: usize, output: &'a [u8]) -> &'a [u8] {
     let mut end = 0usize;
     for line in told {
@@ -18,7 +19,7 @@ pub fn out_after<'a>(told: &[Told], lines: usize, output: &'a [u8]) -> &'a [u8] 
     output.get(..end).unwrap_or(output)
 }
 
-/// How many bytes the first lines of a text have.
+/// Returns the number of bytes of the first lines of a text.
 pub fn front_len(text: &[u8], lines: usize) -> usize {
     let mut left = lines;
     for (place, byte) in text.iter().enumerate() {
@@ -30,7 +31,7 @@ pub fn front_len(text: &[u8], lines: usize) -> usize {
     text.len()
 }
 
-/// How many lines a text has, a last one without a newline among them.
+/// Returns the number of lines of a text. A last line without a newline counts.
 pub fn line_count(text: &[u8]) -> usize {
     let mut count = 0usize;
     let mut before = b'\n';

@@ -5,7 +5,7 @@ use mltl_base::{ArithOp, BetweenOp, CompareOp, Interval, LogicOp, WindowOp};
 use mltl_oracle::{Atom, Formula, Output, Term};
 use std::alloc::Global;
 
-/// Terms and outputs that no operator has taken yet.
+/// The terms and outputs that no operator has taken yet.
 #[derive(Drop)]
 pub struct Operands {
     alloc: Global,
@@ -22,12 +22,12 @@ impl Operands {
         }
     }
 
-    /// The outputs that are left.
+    /// Returns the outputs that are left.
     pub fn into_outputs(self) -> Vec<Output> {
         self.outs
     }
 
-    /// Reads a signal, an integer or an operator.
+    /// Takes a signal, an integer or an operator.
     pub fn take(&mut self, word: &str) -> Result<()> {
         match word {
             "a" => self.put(Formula::Atom(Atom::IsTrue(0))),
@@ -118,7 +118,7 @@ impl Operands {
     }
 }
 
-/// Returns the operator over one formula with which a word begins, and what follows its letter.
+/// Returns the operator over one formula with which a word begins, and the text after its letter.
 fn window_op(word: &str) -> Option<(WindowOp, &str)> {
     if let Some(rest) = word.strip_prefix('F') {
         return Some((WindowOp::F, rest));
@@ -132,7 +132,8 @@ fn window_op(word: &str) -> Option<(WindowOp, &str)> {
     Some((WindowOp::H, word.strip_prefix('H')?))
 }
 
-/// Returns the operator between two formulas with which a word begins, and what follows its letter.
+/// Returns the operator between two formulas with which a word begins, and the text after its
+/// letter.
 fn between_op(word: &str) -> Option<(BetweenOp, &str)> {
     if let Some(rest) = word.strip_prefix('U') {
         return Some((BetweenOp::U, rest));

@@ -1,10 +1,10 @@
-//! What a run gives, and where two of them differ.
+//! The outcome of a run, and the differences of two outcomes.
 
 ghost use Rattle.std.specs.Prelude.{◌≢◌, ◌↔◌, IsTrue};
 
 use std::alloc::Global;
 
-/// What a run gives: its exit status, and the bytes on its output and on its error output.
+/// The outcome of a run: its exit status, and the bytes on its output and on its error output.
 #[derive(Drop)]
 pub struct Outcome {
     pub status: u8,
@@ -13,7 +13,7 @@ pub struct Outcome {
 }
 
 impl Outcome {
-    /// A run that ends well and writes nothing.
+    /// Makes the outcome of a run that ends with success and writes nothing.
     pub fn new(alloc: Global) -> Outcome {
         Outcome {
             status: 0,
@@ -23,7 +23,7 @@ impl Outcome {
     }
 }
 
-/// The first byte at which two texts part, and its line, both counted from 1.
+/// Returns the first byte at which two texts differ, and its line, both counted from 1.
 pub fn parting(came: &[u8], wanted: &[u8]) -> (usize, usize) {
     let mut line = 1usize;
     for (place, (one, other)) in came.iter().zip(wanted.iter()).enumerate() {
@@ -35,7 +35,7 @@ pub fn parting(came: &[u8], wanted: &[u8]) -> (usize, usize) {
     (came.len().min(wanted.len()).saturating_add(1), line)
 }
 
-/// Which parts of two outcomes differ.
+/// Parts of an outcome, such as the parts that differ.
 #[derive(Clone, Copy, PartialEq, Eq)]
 pub struct Parts {
     pub status: bool,
@@ -52,7 +52,7 @@ impl Parts {
         }
     }
 
-    /// The parts in which an outcome differs from the expected one.
+    /// Returns the parts in which an outcome differs from the expected one.
     pub fn of(found: &Outcome, wanted: &Outcome) -> Parts
         ensures status { IsTrue result.status ↔ (found.now.status ≢ wanted.now.status) }
         ensures output { IsTrue result.output ↔ (found.now.output.items ≢ wanted.now.output.items) }
@@ -65,7 +65,7 @@ impl Parts {
         }
     }
 
-    /// The part of this name alone.
+    /// Returns the part of this name alone.
     pub fn named(name: &str) -> Option<Parts> {
         let status = name == "status";
         let output = name == "output";

@@ -1,9 +1,9 @@
-//! Bytes that a line of a script says.
+//! Bytes in a line of a script.
 
 use anyhow::Result;
 use std::alloc::{AllocError, Global};
 
-/// Bytes of a file, or of what a run writes.
+/// Bytes of a file, or of the output of a run.
 #[derive(Clone, Copy)]
 pub enum Piece<'a> {
     /// A text and a newline.
@@ -17,7 +17,7 @@ pub enum Piece<'a> {
 }
 
 impl<'a> Piece<'a> {
-    /// The bytes of a line of a file with this first word; none where it is another word.
+    /// Returns the bytes of a line of a file with this first word, or `None` if it is another word.
     pub fn of(head: &str, rest: &'a str) -> Option<Piece<'a>> {
         match head {
             "|" => Some(Piece::Line(rest)),
@@ -26,7 +26,8 @@ impl<'a> Piece<'a> {
         }
     }
 
-    /// The bytes of a line of what a run was to write; its mark and the kind of bytes are one word.
+    /// Returns the bytes of a line of an expected output, whose mark and kind of bytes are one
+    /// word.
     pub fn of_kind(kind: &str, rest: &'a str) -> Option<Piece<'a>> {
         match kind {
             "" => Some(Piece::Line(rest)),
@@ -37,7 +38,7 @@ impl<'a> Piece<'a> {
         }
     }
 
-    /// Whether the text contains the number of its repetition.
+    /// Returns true if the text contains the number of its repetition.
     pub fn has_numbers(&self) -> bool {
         match self {
             Piece::Line(text) | Piece::Text(text) => text.contains('$'),
@@ -46,7 +47,7 @@ impl<'a> Piece<'a> {
     }
 }
 
-/// The bytes of pairs of hexadecimal digits, which blanks may part.
+/// Returns the bytes of pairs of hexadecimal digits, which blanks may separate.
 pub fn hex_bytes(alloc: Global, digits: &str) -> Result<Vec<u8>> {
     let mut bytes = Vec::new(alloc);
     for word in digits.split_whitespace() {

@@ -1,4 +1,5 @@
-//! The definitions of meaning, computed by the plain program over a formula and rows that a run gives.
+//! The definitions of meaning, computed by the plain program over the formula and the rows of a
+//! run.
 //!
 //! Operators follow their operands, as in `a b U0,3`: `a` and `b` are the first two columns as Booleans, `x` is the
 //! first one as an integer.
@@ -13,7 +14,7 @@ use mltl_oracle::{Fault, Output, meaning, reports, verdicts, words};
 use std::alloc::Global;
 use std::fmt::Write;
 
-/// The outputs of a text: each formula or contract that no operator takes.
+/// Returns the outputs of a text: each formula or contract that no operator takes.
 fn outputs_of(alloc: Global, text: &str) -> Result<Vec<Output>> {
     let mut operands = Operands::new(alloc);
     for word in text.split_whitespace() {
@@ -22,7 +23,7 @@ fn outputs_of(alloc: Global, text: &str) -> Result<Vec<Output>> {
     Ok(operands.into_outputs())
 }
 
-/// The rows of a text; commas part the columns.
+/// Returns the rows of a text. Commas separate the columns.
 fn rows_of(alloc: Global, text: &str) -> Result<List<List<i64>>> {
     let mut rows = List::new(alloc);
     for word in text.split_whitespace() {
@@ -35,7 +36,8 @@ fn rows_of(alloc: Global, text: &str) -> Result<List<List<i64>>> {
     Ok(rows)
 }
 
-/// Everything that is printed after each row: its number, and the output, the time and the word of each report.
+/// Returns the text that is printed after each row: its number, and the output, the time and the
+/// word of each report.
 fn told(alloc: Global, style: Style, outs: &[Output], rows: &[List<i64>]) -> Result<String>
     requires few { length outs.now ≤ 2 ^ 32 }
 {
@@ -53,7 +55,7 @@ fn told(alloc: Global, style: Style, outs: &[Output], rows: &[List<i64>]) -> Res
     Ok(text)
 }
 
-/// The words of each output that are known after all rows.
+/// Returns the words of each output that are known after all rows.
 fn known(alloc: Global, outs: &[Output], rows: &[List<i64>]) -> Result<String> {
     let mut text = String::new(alloc);
     for output in outs {
@@ -66,7 +68,8 @@ fn known(alloc: Global, outs: &[Output], rows: &[List<i64>]) -> Result<String> {
     Ok(text)
 }
 
-/// The verdicts of a formula that are known after all rows, and its meaning at each of their times.
+/// Returns the verdicts of a formula that are known after all rows, and its meaning at each of
+/// their times.
 fn decided(alloc: Global, outs: &[Output], rows: &[List<i64>]) -> Result<String> {
     let mut text = String::new(alloc);
     for output in outs {
@@ -93,7 +96,8 @@ fn fault(fault: Fault) -> Error {
     }
 }
 
-/// What the plain program gives: `each`, `runs`, `words` or `meaning`, then the formulas, `over`, and the rows.
+/// Returns the output of the plain program for `each`, `runs`, `words` or `meaning`, then the
+/// formulas, `over`, and the rows.
 pub fn shown(alloc: Global, text: &str) -> Result<String> {
     let (kind, rest) = text.split_once(' ').context("no formula")?;
     let (formulas, rows) = rest.split_once(" over ").context("no rows")?;
@@ -111,7 +115,7 @@ pub fn shown(alloc: Global, text: &str) -> Result<String> {
     }
 }
 
-/// Runs the plain program: its result is the output; without one the reason is the error output.
+/// Runs the plain program. Its result is the output; if it fails, the error is the error output.
 pub fn plain_outcome(alloc: Global, text: &str) -> Result<Outcome> {
     let mut outcome = Outcome::new(alloc);
     match shown(alloc, text) {

@@ -1,4 +1,4 @@
-//! Prints where a run differs from what its script expects.
+//! Messages for the differences between a run and its script.
 
 use crate::outcome::{Outcome, Parts, parting};
 use crate::request::Asked;
@@ -7,7 +7,7 @@ use anyhow::Result;
 use std::alloc::{AllocError, Global};
 use std::str;
 
-/// Bytes as a text, or as hexadecimal digits where they aren't one.
+/// Returns bytes as a text, or as hexadecimal digits if they aren't a text.
 fn shown(alloc: Global, bytes: &[u8]) -> Result<String, AllocError> {
     let is_text = bytes.iter().all(|byte| *byte == b'\n' || *byte >= b' ');
     match str::from_utf8(bytes) {
@@ -16,7 +16,7 @@ fn shown(alloc: Global, bytes: &[u8]) -> Result<String, AllocError> {
     }
 }
 
-/// Prints what came and what was wanted.
+/// Prints the actual and the expected bytes.
 fn print_both(
     rt: &impl Print,
     alloc: Global,
@@ -33,7 +33,7 @@ fn print_both(
     Ok(())
 }
 
-/// Prints which run of which case differs.
+/// Prints the case and the run that differ.
 fn print_head(rt: &impl Print, case: &str, asked: &Asked, setting: Setting) -> Result<()> {
     let line = asked.line;
     let words = asked.words.as_str();
@@ -55,7 +55,7 @@ pub fn print_untimely(
     print_both(rt, alloc, "output before that call", came, wanted)
 }
 
-/// Prints in which parts a run gave something else than was wanted.
+/// Prints the parts in which the outcome of a run differs from the expected one.
 pub fn print_difference(
     rt: &impl Print,
     alloc: Global,

@@ -1,10 +1,10 @@
-//! A run that a script asks for.
+//! A run that a script requests.
 
 use crate::moments::Told;
 use crate::outcome::{Outcome, Parts};
 use tool_io::Place;
 
-/// A run that a script asks for, and what it is to give.
+/// A run that a script requests, and its expected outcome.
 #[derive(Drop)]
 pub struct Asked {
     pub line: usize,
@@ -12,13 +12,14 @@ pub struct Asked {
     pub lengths: Option<(usize, usize)>,
     pub failing: Option<(Place, u64)>,
     pub wanted: Outcome,
-    /// After which lines of the trace those of the wanted output are out, where the script says so.
+    /// The number of lines of the trace that are read before each expected line is out, if the
+    /// script has it.
     pub told: Vec<Told>,
     pub meant: Parts,
 }
 
 impl Asked {
-    /// The name of the trace: the last word.
+    /// Returns the name of the trace: the last word.
     pub fn trace(&self) -> &str {
         match self.words.as_str().rsplit_once(' ') {
             Some((_, name)) => name,

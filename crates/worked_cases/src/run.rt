@@ -23,17 +23,17 @@ fn words_of(alloc: Global, text: &str) -> Result<Words, AllocError> {
     Ok(words)
 }
 
-/// The exit status of `r2u2` with these words.
+/// Returns the exit status of `r2u2` with these words.
 fn r2u2_code<H: Host>(alloc: Global, words: &Words, host: &mut H) -> u8 {
     r2u2_main(alloc, words, host, &mut None).code()
 }
 
-/// The exit status of `c2po` with these words.
+/// Returns the exit status of `c2po` with these words.
 fn c2po_code<H: Host>(alloc: Global, words: &Words, host: &mut H) -> u8 {
     c2po_main(alloc, words, host).code()
 }
 
-/// The exit status of a program with these words.
+/// Returns the exit status of a program with these words.
 fn status_of(alloc: Global, tool: &str, words: &Words, host: &mut MemHost) -> Result<u8> {
     match tool {
         "r2u2" => Ok(r2u2_code(alloc, words, host)),

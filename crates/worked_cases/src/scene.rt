@@ -1,4 +1,4 @@
-//! What the runs of a case see.
+//! The files and the reads for the runs of a case.
 
 use crate::files::Files;
 use crate::piece::{Piece, hex_bytes, numbered};
@@ -12,20 +12,20 @@ pub struct Room {
     pub bytes: usize,
 }
 
-/// More than a case needs whose name doesn't end in `(long)`.
+/// More room than a case needs whose name doesn't end in `(long)`.
 const SHORT: Room = Room {
     events: 20_000,
     bytes: 200_000,
 };
 
-/// More than the longest case needs.
+/// More room than the longest case needs.
 const LONG: Room = Room {
     events: 2_000_000,
     bytes: 17_000_000,
 };
 
 impl Room {
-    /// The room of a case, by its name.
+    /// Returns the room of a case, by its name.
     pub fn of(case: &str) -> Room {
         if case.ends_with("(long)") {
             LONG
@@ -35,7 +35,7 @@ impl Room {
     }
 }
 
-/// Files, and how many bytes a read gives at most in each of the runs.
+/// Files, and the most bytes that a read returns in each of the runs.
 #[derive(Drop)]
 pub struct Scene {
     pub files: Files,
@@ -55,7 +55,7 @@ impl Scene {
         self.blocks.clear();
     }
 
-    /// Takes the numbers of a line as the most bytes of a read.
+    /// Sets the most bytes of a read to the numbers of a line.
     pub fn set_blocks(&mut self, numbers: &str) -> Result<()> {
         self.blocks.clear();
         for word in numbers.split(' ') {
@@ -69,7 +69,7 @@ impl Scene {
     }
 }
 
-/// The scene of all cases, and that of the case which is being read.
+/// The scene of all cases, and the scene of the current case.
 #[derive(Drop)]
 pub struct Scenes {
     pub alloc: Global,
@@ -90,7 +90,8 @@ impl Scenes {
         }
     }
 
-    /// The scene to which a line adds: the case's own within a case, and else the one of all cases.
+    /// Returns the scene to which a line adds: the case's own within a case, and else the scene of
+    /// all cases.
     pub fn current(&mut self) -> &mut Scene {
         if self.in_case {
             &mut self.own
@@ -99,7 +100,7 @@ impl Scenes {
         }
     }
 
-    /// The most bytes of a read, for each time that a run is made.
+    /// Returns the most bytes of a read, for each time that a run is made.
     pub fn blocks(&self) -> Result<Vec<usize>, AllocError> {
         if self.own.blocks.is_empty() {
             self.common.blocks.clone()
@@ -108,7 +109,7 @@ impl Scenes {
         }
     }
 
-    /// The bytes of the file of this name.
+    /// Returns the bytes of the file of this name.
     pub fn find(&self, name: &str) -> Result<&[u8]> {
         match self.own.files.find(name) {
             Some(bytes) => Ok(bytes),
@@ -116,7 +117,7 @@ impl Scenes {
         }
     }
 
-    /// The bytes of a piece.
+    /// Returns the bytes of a piece.
     pub fn bytes_of(&self, piece: Piece<'_>) -> Result<Vec<u8>> {
         match piece {
             Piece::Line(text) => {
@@ -130,7 +131,7 @@ impl Scenes {
         }
     }
 
-    /// Goes on with a piece.
+    /// Appends a piece.
     pub fn add(&mut self, piece: Piece<'_>) -> Result<()> {
         let bytes = self.bytes_of(piece)?;
         self.current().files.add(&bytes)

@@ -13,7 +13,7 @@ use anyhow::{Context, Result, bail};
 use std::alloc::Global;
 use tool_io::Place;
 
-/// What a script's runs are made by.
+/// A runner of the commands of a script.
 pub trait Run {
     /// Runs a command of a script under a setting, over the files of its scenes.
     fn outcome(
@@ -25,13 +25,13 @@ pub trait Run {
     ) -> Result<Outcome>;
 }
 
-/// What is known after some lines of a script.
+/// The state after some lines of a script.
 #[derive(Drop)]
 struct Stage {
     alloc: Global,
     scenes: Scenes,
     case: String,
-    /// The count of runs and of those that agreed, before the case.
+    /// The count of runs and of agreeing runs before the case.
     before: Tally,
     lengths: Option<(usize, usize)>,
     failing: Option<(Place, u64)>,
@@ -101,7 +101,7 @@ impl Stage {
         }
     }
 
-    /// Takes the command of a run; what it should print follows.
+    /// Takes the command of a run. Its expected outcome follows.
     fn ask(&mut self, line: usize, words: &str) -> Result<()> {
         if !self.scenes.in_case {
             bail!("a run outside a case");
@@ -118,7 +118,7 @@ impl Stage {
         Ok(())
     }
 
-    /// Takes what the run before the line is to give.
+    /// Takes a part of the expected outcome of the run before the line.
     fn want(&mut self, step: Step<'_>) -> Result<()> {
         let asked = self.asked.as_mut().context("no run before this line")?;
         match step {
@@ -143,7 +143,7 @@ impl Stage {
         Ok(())
     }
 
-    /// Makes the run that was asked for, if there is one, for each length of its file.
+    /// Makes the requested run, if there is one, for each length of its file.
     fn settle(&mut self, rt: &impl Print, runner: &impl Run) -> Result<()> {
         let Some(asked) = self.asked.take() else {
             return Ok(());
@@ -161,7 +161,7 @@ impl Stage {
         Ok(())
     }
 
-    /// Makes a run with each limit of its reads, and those that show when its lines are out.
+    /// Makes a run with each limit of its reads, and the runs that check when its lines are out.
     fn run(
         &mut self,
         rt: &impl Print,
@@ -245,14 +245,14 @@ impl Stage {
         Ok(())
     }
 
-    /// Keeps what the last run wrote as a file.
+    /// Keeps the output of the last run as a file.
     fn keep(&mut self, name: &str) -> Result<()> {
         let files = &mut self.scenes.current().files;
         files.begin(name)?;
         files.add(&self.written)
     }
 
-    /// Does what a line asks for that isn't a part of what a run is to give.
+    /// Takes a line that isn't a part of an expected outcome.
     fn take(&mut self, line: usize, step: Step<'_>) -> Result<()> {
         match step {
             Step::Blank => self.end(),
@@ -291,7 +291,8 @@ impl Stage {
     }
 }
 
-/// Plays a script, prints where a run differs from what it says, and counts those that agree.
+/// Plays a script, prints each difference between a run and its script, and counts the runs that
+/// agree.
 pub fn play(rt: &impl Print, runner: &impl Run, alloc: Global, script: &str) -> Result<Tally> {
     let mut stage = Stage::new(alloc);
     stage.scenes.common.set_blocks("65536")?;

@@ -1,9 +1,9 @@
-//! What a run is made under: the most bytes of a read, the length of its file, and a call that fails.
+//! The setting of a run: the most bytes of a read, the length of its file, and a call that fails.
 
 use std::fmt;
 use tool_io::Place;
 
-/// What one of several runs of the same words is made under.
+/// The setting of one of several runs of the same words.
 #[derive(Clone, Copy)]
 pub struct Setting {
     /// The most bytes of a read.

@@ -1,15 +1,15 @@
-//! One line of a script, as the step that it asks for.
+//! One line of a script, as a step.
 
 use crate::piece::Piece;
 use anyhow::{Context, Result, bail};
 use tool_io::Place;
 
-/// What one line of a script asks for.
+/// The step of one line of a script.
 #[derive(Clone, Copy)]
 pub enum Step<'a> {
     /// A remark.
     Remark,
-    /// An empty line: a case ends here.
+    /// The line is empty, and a case ends here.
     Blank,
     /// A case of this name begins.
     Case(&'a str),
@@ -17,38 +17,39 @@ pub enum Step<'a> {
     File(&'a str, Option<Piece<'a>>),
     /// The file goes on with these bytes.
     Add(Piece<'a>),
-    /// Appends these bytes to the file, this many times.
+    /// These bytes are appended to the file, this many times.
     Repeat(u32, Piece<'a>),
     /// The byte at this place of the file has another value.
     Set(usize, u8),
-    /// Cuts the file to this many bytes.
+    /// The file is cut to this many bytes.
     Cut(usize),
     /// The next run is made for each length of the file from the second down to the first.
     Each(usize, usize),
-    /// Each later run is made once for each of these numbers: the most bytes that one read gives.
+    /// Each later run is made once for each of these numbers: the most bytes that one read returns.
     Block(&'a str),
     /// In the next run this call at this place fails, counted from 0.
     Fail(Place, u64),
-    /// A run of these words.
+    /// A run of these words is requested.
     Run(&'a str),
-    /// The run before was to end with this status.
+    /// The run before the line ends with this status.
     Status(u8),
-    /// The run before was to write these bytes to its output.
+    /// The run before the line writes these bytes to its output.
     Output(Piece<'a>),
-    /// The run before must write this line to its output before it reads more of its trace than this many lines.
+    /// The run before the line writes this line to its output before it reads more of its trace
+    /// than this many lines.
     OutputAfter(usize, &'a str),
-    /// The run before was to write these bytes to its error output.
+    /// The run before the line writes these bytes to its error output.
     Errors(Piece<'a>),
-    /// The run before was to differ from what is said of it, in the part of this name.
+    /// The run before the line differs from its expected outcome, in the part of this name.
     Differs(&'a str),
-    /// What the run before wrote is the file of this name.
+    /// The output of the run before the line is kept as the file of this name.
     Keep(&'a str),
     /// The script has at least this many cases.
     Least(u32),
 }
 
 impl Step<'_> {
-    /// Whether the step says what the run before it was to give.
+    /// Returns true if the step is a part of the expected outcome of the run before it.
     pub fn is_wanted(&self) -> bool {
         matches!(
             self,
@@ -61,7 +62,7 @@ impl Step<'_> {
     }
 }
 
-/// The step that a line asks for.
+/// Returns the step of a line.
 pub fn step_of(line: &str) -> Result<Step<'_>> {
     if line.is_empty() {
         return Ok(Step::Blank);
@@ -84,7 +85,8 @@ pub fn step_of(line: &str) -> Result<Step<'_>> {
     }
 }
 
-/// The step of a line that has two parts after its first word, or a mark and a kind of bytes in its first word.
+/// Returns the step of a line that has two parts after its first word, or a mark and a kind of
+/// bytes in its first word.
 fn longer_step_of<'a>(head: &'a str, rest: &'a str) -> Result<Step<'a>> {
     let (first, second) = rest.split_once(' ').unwrap_or((rest, ""));
     match head {
@@ -105,7 +107,7 @@ fn length_of(text: &str) -> Result<usize> {
     text.parse::<usize>().context("a number")
 }
 
-/// The bytes that a part of a line says.
+/// Returns the bytes in a part of a line.
 fn piece_of(part: &str) -> Result<Piece<'_>> {
     let (head, rest) = part.split_once(' ').unwrap_or((part, ""));
     match Piece::of(head, rest) {
@@ -148,7 +150,7 @@ fn place_of(name: &str) -> Result<Place> {
     }
 }
 
-/// The step of a line with what a run was to write.
+/// Returns the step of a line with an expected output.
 fn given<'a>(head: &'a str, rest: &'a str) -> Result<Step<'a>> {
     if let Some(kind) = head.strip_prefix('>')
         && let Some(piece) = Piece::of_kind(kind, rest)

@@ -1,4 +1,4 @@
-//! How many cases and runs agreed.
+//! The numbers of cases and runs that agreed.
 
 use std::fmt;
 
@@ -32,7 +32,7 @@ impl Tally {
         self.agreeing_cases = self.agreeing_cases.saturating_add(u32::from(agrees));
     }
 
-    /// Whether all runs agreed.
+    /// Returns true if all runs agreed.
     pub fn is_whole(&self) -> bool {
         self.runs == self.agreeing_runs
     }
