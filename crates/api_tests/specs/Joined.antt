@@ -1,4 +1,4 @@
--- How two runs ended, and what their logs say: c2po compiled a text, and r2u2 ran what was written over a trace.
+-- The endings and the logs of two runs: c2po compiled a text, and r2u2 ran its output over a trace.
 
 use Rattle.std.specs.Prelude.{◌≡◌, ◌≢◌, ℕ, false, Option, List, Result, Ok, ⊤}
 use Rattle.std.specs.declared.alloc.AllocError.{AllocError}
@@ -23,28 +23,28 @@ use Rattle.mltl_tools.specs.Sentence.{ReportsText, lines_at}
 use Rattle.api_tests.specs.declared.joined.Ended.{Ended}
 use Rattle.api_tests.specs.declared.joined.Ended.TheVariants.{Unmade, Apart, Together}
 
--- how c2po ended: with success wherever anything follows
+-- the status of c2po, which is success if r2u2 ran
 abbrev pub made_as : Result Ended AllocError → Status
 made_as (Ok (Unmade status)) = status
 made_as result = Done
 
--- a fact of the end of c2po, where r2u2 didn't run
+-- P holds of the status of c2po, if r2u2 didn't run
 abbrev pub IfUnmade : Result Ended AllocError → (Status → Type 0) → Type 0
 IfUnmade (Ok (Unmade status)) P = P status
 IfUnmade result P = ⊤
 
--- a fact of the end of r2u2, where it ran
+-- P holds of the status of r2u2, if it ran
 abbrev pub IfWatched : Result Ended AllocError → (Status → Type 0) → Type 0
 IfWatched (Ok (Apart status)) P = P status
 IfWatched (Ok (Together status)) P = P status
 IfWatched result P = ⊤
 
--- a fact where it isn't known that r2u2 read what c2po wrote
+-- P holds, if it isn't known that r2u2 read the output of c2po
 abbrev pub IfApart : Result Ended AllocError → Type 0 → Type 0
 IfApart (Ok (Apart status)) P = P
 IfApart result P = ⊤
 
--- a fact of the end of r2u2, where it read what c2po wrote
+-- P holds of the status of r2u2, if it read the output of c2po
 abbrev pub IfTogether : Result Ended AllocError → (Status → Type 0) → Type 0
 IfTogether (Ok (Together status)) P = P status
 IfTogether result P = ⊤
@@ -54,18 +54,18 @@ abbrev pub IsWatched : Result Ended AllocError → Type 0
 IsWatched (Ok (Unmade status)) = ⊥
 IsWatched result = ⊤
 
--- what c2po_main says of a run over a new host that ended so
+-- the contract of c2po_main for a run over a new host that ended with this status
 pub record HasMade (words : List (List ℕ)) (status : Status) (before now : Held) : Type 0 where
   pub cause : (p : Place) → p ≢ at.Err → CauseAt status p (faults_of before p) (faults_of now p)
   pub made : IsMade (ask words) status (faults_of before) (faults_of now) now.tape.events
 
--- what r2u2_main says of a run over a new host that ended so
+-- the contract of r2u2_main for a run over a new host that ended with this status
 pub record HasRun (words : List (List ℕ)) (status : Status) (before now : Held) : Type 0 where
   pub kept : Option State
   pub cause : (p : Place) → p ≢ at.Err → CauseAt status p (faults_of before p) (faults_of now p)
   pub ran : IsRun (watching.ask words) status kept (faults_of before) (faults_of now) now.tape.events
 
--- the one command line requests the program of a specification, and the other one a run over a program file
+-- one command line requests the program of a specification, and the other requests a run over a program file
 pub record Requests (making running : List (List ℕ)) : Type 0 where
   pub compiled : CompileAsked
   pub asks : compiling.ask making ≡ compile compiled
@@ -74,7 +74,7 @@ pub record Requests (making running : List (List ℕ)) : Type 0 where
   pub asks_run : watching.ask running ≡ run ran
   pub of_program : ran.kind ≡ file.Program
 
--- what r2u2 printed reports the text that c2po read, under the header that the command line names, if it names one
+-- the output of r2u2 reports the text that c2po read, under the header that the command line names, if it names one
 abbrev pub ReportsRequested : {making running : List (List ℕ)} → Requests making running → List Event → List Event
     → Type 0
 ReportsRequested asked made ran =

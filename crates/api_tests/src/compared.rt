@@ -1,4 +1,4 @@
-//! A host in memory that keeps what is read of a program, so that it can be compared.
+//! A host in memory that keeps the bytes that are read of a program, so that they can be compared.
 
 ghost use Rattle.std.specs.Prelude.{◌≡◌, ◌≢◌, [], ◌∷◌, ◌++◌, IsTrue, IsFalse, OnOk, Some};
 ghost use Rattle.tool_io.specs.declared.host.Place.TheVariants.{Program as OfProgram};
@@ -15,7 +15,7 @@ use tool_io::{Attached, Got, Host, MemHost, Place, Put};
 pub struct Compared {
     host: MemHost,
     read: Vec<u8>,
-    /// Whether none of them was left out, for want of memory.
+    /// True if no byte was left out for want of memory.
     whole: bool,
 }
 
@@ -34,7 +34,8 @@ impl Model for Compared {
         KeepsProgram compared.host.tape.events compared.read.items compared.whole };
 }
 
-/// Keeps what a read of this place gave, where it is the program's. Returns whether there was memory for it.
+/// Keeps the bytes of a read at this place, if it is the program's. Returns true if there was
+/// memory for them.
 #[tactic(auto, using(crate::proofs::Kept::no_more))]
 fn keep(read: &mut Vec<u8>, place: Place, piece: &[u8]) -> bool
     ensures { IsTrue result → read.new.items
@@ -58,7 +59,7 @@ fn both(first: bool, second: bool) -> bool
 }
 
 impl Compared {
-    /// A host that has read nothing yet.
+    /// Makes a host that has read nothing yet.
     pub fn make(alloc: Global, host: MemHost) -> Compared
         requires new { host.tape.events ≡ [] }
         ensures { result.host ≡ host }
@@ -79,7 +80,7 @@ impl Compared {
         self.host.put_file(name, program)
     }
 
-    /// Whether all that was read of the program is known, and is these bytes.
+    /// Returns true if all bytes that were read of the program are known, and are these bytes.
     pub fn has_read(&self, program: &[u8]) -> bool
         ensures whole { IsTrue result → taken OfProgram self.now.host.tape.events ≡ program.now }
         ensures other { IsFalse result → IsTrue self.now.whole → self.now.read ≢ program.now }
@@ -90,7 +91,7 @@ impl Compared {
         self.read.as_slice() == program
     }
 
-    /// The host in memory.
+    /// Returns the host in memory.
     pub fn host(&self) -> &MemHost
         ensures { result.now ≡ self.now.host }
     {

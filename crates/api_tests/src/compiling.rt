@@ -1,4 +1,4 @@
-//! Compiles a text under a header line by one call.
+//! Tests of the call that compiles a text under a header line.
 
 use c2po_compile::{CompileFault, HeaderWhy, compile};
 use mltl_base::BzOp;
@@ -6,7 +6,8 @@ use mltl_base::limits::MAX_LINE_BYTES;
 use std::alloc::Global;
 use std::test::Fail;
 
-/// What a text of two signals compiles to under a header line: the columns that are read, or what is wrong with the line.
+/// Compiles a text of two signals under a header line. Returns the columns that are read, or the
+/// fault of the line.
 fn read_under(alloc: Global, line: &[u8]) -> &'static str {
     if line.len() >= MAX_LINE_BYTES {
         return "long";

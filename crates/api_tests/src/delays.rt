@@ -1,11 +1,12 @@
-//! The greatest worst-case delay. Only a program file reaches it: the formulas of a specification would be too heavy.
+//! Tests of the greatest worst-case delay. Only a program file reaches it: the formulas of a
+//! specification would be too heavy.
 
 use obs_binary::{FileFault, ProgramFault, open};
 use r2u2_monitor::delay_of;
 use std::alloc::{AllocError, Global};
 use std::test::Fail;
 
-/// Adds numbers of four bytes, as a program file has them.
+/// Appends numbers of four bytes, as a program file has them.
 fn add_numbers(bytes: &mut Vec<u8>, numbers: &[u32]) -> Result<(), AllocError> {
     for number in numbers {
         bytes.extend_from_slice(&number.to_le_bytes())?;
@@ -13,8 +14,8 @@ fn add_numbers(bytes: &mut Vec<u8>, numbers: &[u32]) -> Result<(), AllocError> {
     Ok(())
 }
 
-/// The file of a program: one signal, and `count` untils, each over the one before on both sides. All have the
-/// interval [1048576,1048576].
+/// Makes the file of a program: one signal, and `count` untils, each over the one before on both
+/// sides. All have the interval [1048576,1048576].
 fn untils(alloc: Global, count: u8) -> Result<Vec<u8>, AllocError> {
     let count = u32::from(count);
     let mut bytes = Vec::new(alloc);
@@ -30,7 +31,7 @@ fn untils(alloc: Global, count: u8) -> Result<Vec<u8>, AllocError> {
     Ok(bytes)
 }
 
-/// The worst-case delay of the last of `count` untils.
+/// Returns the worst-case delay of the last of `count` untils.
 fn delay_over(alloc: Global, count: u8) -> Result<Option<u32>, FileFault> {
     let bytes = match untils(alloc, count) {
         Ok(bytes) => bytes,

@@ -1,4 +1,4 @@
-//! The most instructions of a core graph, over comparisons of one signal.
+//! Tests of the most instructions of a core graph, over comparisons of one signal.
 
 ghost use Rattle.std.specs.Prelude.{All, IfOk};
 ghost use Rattle.mltl_base.specs.Subformulas.{IsTensed};
@@ -11,7 +11,8 @@ use mltl_base::{Columns, CompareOp, Engine, List, Name};
 use std::alloc::{AllocError, Global};
 use std::test::Fail;
 
-/// So many comparisons of a signal, each an output: the first with itself, and the others with a number each.
+/// Makes `count` comparisons of a signal, each an output: the first with itself, and the others
+/// with a number each.
 fn comparisons(alloc: Global, name: &Name, count: u32) -> Result<Expanded, AllocError>
     ensures nodes { IfOk result (λ spec. AreSound 1 spec.nodes) }
     ensures outs { IfOk result (λ spec. All (NamesFormulas (trees spec.nodes)) spec.outs) }
@@ -32,7 +33,8 @@ fn comparisons(alloc: Global, name: &Name, count: u32) -> Result<Expanded, Alloc
     })
 }
 
-/// How many instructions bz and ft have in the core graph of such comparisons; `None` where they would be too many.
+/// Returns the numbers of instructions of bz and ft in the core graph of such comparisons, or
+/// `None` if they would be too many.
 fn sizes(alloc: Global, count: u32) -> Result<Option<(usize, usize)>, AllocError> {
     let Some(name) = Name::of(b"equal") else {
         return Err(AllocError);
@@ -53,7 +55,8 @@ fn sizes(alloc: Global, count: u32) -> Result<Option<(usize, usize)>, AllocError
 
 #[test]
 fn has_65536_instructions_at_most(rt: HostRuntime) -> Result<(), Fail> {
-    // each comparison takes two instructions of bz: its own and that of the signal or of its number
+    // each comparison takes two instructions of bz: its own, and one for the signal or for its
+    // number
     let table = [
         (32_768, Some((65_536, 32_768))),
         (32_769, None),

@@ -1,21 +1,22 @@
-//! The calls of a host in memory, with each case in which one fails, and those of the host over a real file.
+//! Tests of the calls of a host in memory, with each case in which a call fails, and of the host
+//! over a real file.
 
 use std::alloc::{AllocError, Global};
 use std::test::Fail;
 use std::{env, fs};
 use tool_io::{Attached, Got, Host, MemHost, Place, Put, RealHost};
 
-/// A call, with what it is to answer.
+/// A call, with its expected answer.
 #[derive(Clone, Copy)]
 enum Step {
     Attach(Place, &'static str, Attached),
-    /// A read of the trace.
+    /// The step reads the trace.
     Read(Got),
-    /// A write to the output.
+    /// The step writes to the output.
     Write(&'static [u8], Put),
 }
 
-/// The step returns what the case expects.
+/// Returns true if the step returns the answer that the case expects.
 fn answers<H: Host>(host: &mut H, step: Step, into: &mut [u8]) -> bool {
     match step {
         Step::Attach(place, name, wanted) => host.attach(place, name) == wanted,
@@ -32,7 +33,7 @@ fn with_rows(alloc: Global, events: usize, bytes: usize) -> Result<MemHost, Allo
     Ok(host)
 }
 
-/// A host's room, the call that is listed to fail, and steps.
+/// A test case: the room of a host, the call that is listed to fail, and steps.
 #[derive(Clone, Copy)]
 struct Case {
     listed: Option<(Place, u64)>,
@@ -41,7 +42,7 @@ struct Case {
     steps: [Step; 4],
 }
 
-/// All steps of the case return what it expects.
+/// Returns true if all steps of the case return the expected answers.
 fn all_answer(alloc: Global, case: Case) -> Result<bool, AllocError> {
     let mut host = with_rows(alloc, case.events, case.bytes)?;
     if let Some((place, call)) = case.listed {
@@ -55,7 +56,7 @@ fn all_answer(alloc: Global, case: Case) -> Result<bool, AllocError> {
     Ok(true)
 }
 
-/// A case in a host with room for nine events and 99 bytes.
+/// Makes a case in a host with room for nine events and 99 bytes.
 fn roomy(listed: Option<(Place, u64)>, steps: [Step; 4]) -> Case {
     Case {
         listed,
@@ -65,7 +66,7 @@ fn roomy(listed: Option<(Place, u64)>, steps: [Step; 4]) -> Case {
     }
 }
 
-/// A case in a host with little room, where no call is listed.
+/// Makes a case in a host with little room and no listed call.
 fn narrow(events: usize, bytes: usize, steps: [Step; 4]) -> Case {
     Case {
         listed: None,
@@ -94,7 +95,7 @@ fn fails_exactly_where_it_should(rt: HostRuntime) -> Result<(), Fail> {
         roomy(Some((Place::Out, 1)), [wrote, unwritten, wrote, wrote]),
         // no file of that name, and a place that isn't attached
         roomy(None, [absent, unread, ready, four]),
-        // a place stays attached where a later attach fails
+        // a place stays attached if a later attach fails
         roomy(None, [ready, absent, four, end]),
         // no room for one more event, and none for one more byte
         narrow(3, 99, [ready, four, wrote, unwritten]),
@@ -108,7 +109,7 @@ fn fails_exactly_where_it_should(rt: HostRuntime) -> Result<(), Fail> {
     Ok(())
 }
 
-/// What an attach answers.
+/// Returns the answer of an attach.
 fn attached<H: Host>(host: &mut H, place: Place, name: &str) -> Attached {
     host.attach(place, name)
 }

@@ -1,4 +1,4 @@
-//! A text that is compiled, and a trace that is watched with the program that came out.
+//! A text that is compiled, and a trace that is watched with the compiled program.
 
 ghost use Rattle.std.specs.Prelude.{◌≡◌, ◌≢◌, [], IsTrue};
 ghost use Rattle.tool_io.specs.Log.{given, taken};
@@ -10,14 +10,16 @@ use mltl_tools::{Status, Words, c2po_main, compiled_and_watched, r2u2_main};
 use std::alloc::{AllocError, Global};
 use tool_io::{MemHost, Place};
 
-/// How the runs of both programs ended.
+/// The ending of the runs of both programs.
 #[derive(Drop)]
 pub enum Ended {
-    /// c2po ended so, and r2u2 didn't run.
+    /// c2po ended with this status, and r2u2 didn't run.
     Unmade(Status),
-    /// c2po ended with success, and r2u2 so; it isn't known that it read of the program what c2po wrote.
+    /// c2po ended with success, and r2u2 with this status. It isn't known that r2u2 read the output
+    /// of c2po as its program.
     Apart(Status),
-    /// c2po ended with success, and r2u2 so, which read of the program what c2po wrote.
+    /// c2po ended with success, and r2u2 with this status. It read the output of c2po as its
+    /// program.
     Together(Status),
 }
 
@@ -30,8 +32,8 @@ fn run_over(alloc: Global, watching: &Words, watcher: &mut Compared) -> Status
     r2u2_main(alloc, watching, watcher, &mut kept)
 }
 
-/// Runs r2u2 over a host, in which a program is put into a file of this name. Returns how it ended, where there was memory
-/// for the file.
+/// Runs r2u2 over a host, in which a program is put into a file of this name. Returns its status,
+/// if there was memory for the file.
 fn watch_program(
     alloc: Global,
     program: &[u8],
@@ -58,10 +60,11 @@ fn watch_program(
     }
 }
 
-/// Compiles a text by the one command line over the one host, and watches a trace with the program that came out by the
-/// other, over the other host, in which the program is put into a file of this name. Returns how both runs ended; out
-/// of memory for that file is an end only after a compilation with success. Where the command lines request such runs,
-/// both ended with success, and what was read of the program is what was written, the output of r2u2 reports the text.
+/// Compiles a text by one command line over one host, and watches a trace with the compiled program
+/// by the other command line, over the other host, in which the program is put into a file of this
+/// name. Returns the ending of both runs; out of memory for that file is an ending only after a
+/// compilation with success. If the command lines request such runs, both ended with success, and
+/// the program that was read is the program that was written, the output of r2u2 reports the text.
 pub fn compile_and_watch(
     alloc: Global,
     making: &Words,

@@ -1,11 +1,12 @@
-//! Tests of calls that no program makes: on hosts, on a cut into lines after a fault, on a queue, on a compilation,
-//! on a core graph at its limit, on the greatest delay, and on what command-line arguments ask a program to do.
+//! Tests of calls that no program makes: on hosts, on a cut into lines after a fault, on a queue,
+//! on a compilation, on a core graph at its limit, on the greatest delay, and on the requests of
+//! command-line arguments.
 //!
-//! They are apart from the crates that they test, since a crate with tests is proved twice.
+//! They are separate from the crates that they test, since a crate with tests is proved twice.
 //!
-//! [`compile_and_watch`] runs both programs, one after the other, over hosts in memory: `c2po` compiles a text, and `r2u2`
-//! runs what it wrote over a trace. Its contract says how each run ended, and then what the law `compiled_and_watched` says
-//! of their logs.
+//! [`compile_and_watch`] runs both programs, one after the other, over hosts in memory: `c2po`
+//! compiles a text, and `r2u2` runs its output over a trace. Its contract has the ending of each
+//! run, and the law `compiled_and_watched` for their logs.
 #![tactic(auto)]
 
 mod compared;

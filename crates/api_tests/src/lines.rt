@@ -1,4 +1,4 @@
-//! Lines over a host in memory, whose reads give few bytes or many.
+//! Tests of lines over a host in memory, whose reads return few bytes or many.
 
 ghost use Rattle.std.specs.Prelude.{◌≤◌, IsSome};
 
@@ -6,7 +6,7 @@ use std::alloc::{AllocError, Global};
 use std::test::Fail;
 use tool_io::{Host, Line, LineCut, MemHost, Place};
 
-/// Makes a host whose trace is the bytes, and whose reads return at most `most` bytes.
+/// Makes a host whose trace is the bytes, and whose reads return at most `block` bytes.
 fn trace_of(alloc: Global, bytes: &[u8], block: usize) -> Result<MemHost, AllocError>
     requires { 1 ≤ block }
 {
@@ -17,7 +17,8 @@ fn trace_of(alloc: Global, bytes: &[u8], block: usize) -> Result<MemHost, AllocE
     Ok(host)
 }
 
-/// Puts the row that was cut after the text: the last digit of its number and its text, between `:` and `|`.
+/// Appends the row that was cut to the text: the last digit of its number and its text, between `:`
+/// and `|`.
 fn push_row(text: &mut Vec<u8>, cut: &LineCut) -> Result<(), AllocError>
     requires { IsSome cut.now.row }
 {
@@ -29,8 +30,8 @@ fn push_row(text: &mut Vec<u8>, cut: &LineCut) -> Result<(), AllocError>
     Ok(())
 }
 
-/// Appends the result of the next call to the text: a row, the end as `.`, a long line as `!` and a fault as `?`.
-/// Where `keeps` is true, the row is kept.
+/// Appends the result of the next call to the text: a row, the end as `.`, a long line as `!` and a
+/// fault as `?`. If `keeps` is true, the row is kept.
 fn push_answer<H: Host>(
     text: &mut Vec<u8>,
     cut: &mut LineCut,
@@ -51,7 +52,7 @@ fn push_answer<H: Host>(
     Ok(())
 }
 
-/// Returns the results of `calls` calls as a text. Where `keeps` is true, every second row is kept.
+/// Returns the results of `calls` calls as a text. If `keeps` is true, every second row is kept.
 fn shown<H: Host>(
     alloc: Global,
     host: &mut H,
@@ -78,7 +79,7 @@ fn kept_lines_come_once_more(rt: HostRuntime) -> Result<(), Fail> {
 
 #[test]
 fn tries_again_after_a_fault(rt: HostRuntime) -> Result<(), Fail> {
-    // the attach is call 0, and each read gives two bytes
+    // the attach is call 0, and each read returns two bytes
     let table = [
         (1, "?1:10|2:0|.."),
         (2, "?1:10|2:0|.."),

@@ -1,4 +1,4 @@
-//! Verdicts in a ring over few slots.
+//! Tests of verdicts in a ring over few slots.
 
 ghost use Rattle.std.specs.Prelude.{◌≡◌, ◌<◌, length};
 
@@ -8,7 +8,7 @@ use std::marker::Brand;
 use std::process::Abort;
 use std::sync::ledger::{Blank, Ledger};
 
-/// Writes into a new ring, and what it shows then.
+/// A test case: writes into a new ring, and its expected state after them.
 #[derive(Clone, Copy)]
 struct Case<'a> {
     slots: usize,
@@ -49,7 +49,7 @@ fn show<L: Ledger>(rt: &impl Abort, blank: Blank, cases: &[Case])
 #[test]
 fn one_verdict_goes_on(rt: HostRuntime) {
     let cases = [
-        // Nothing yet.
+        // The ring is empty.
         Case {
             slots: 1,
             writes: &[],
@@ -57,7 +57,7 @@ fn one_verdict_goes_on(rt: HostRuntime) {
             low: 0,
             reads: &[(0, Seen::Nothing)],
         },
-        // One verdict goes on, so nothing is let go.
+        // One verdict goes on, so none is dropped.
         Case {
             slots: 2,
             writes: &[(0, true), (1, true), (2, true)],

@@ -1,4 +1,4 @@
-//! One table of command lines, and what each program makes of them.
+//! Tests of one table of command lines, with the requests that each program reads in them.
 
 use std::alloc::{AllocError, Global};
 use std::env::{Env, FillError};
@@ -14,7 +14,7 @@ fn parted(alloc: Global, text: &str) -> Result<Words, AllocError> {
     Ok(words)
 }
 
-/// Returns what both programs make of the arguments.
+/// Returns the requests that both programs read in the arguments.
 fn shown(alloc: Global, text: &str) -> Result<String, Fail> {
     let words = parted(alloc, text)?;
     let r2u2 = r2u2_ask(alloc, &words)?;
@@ -71,7 +71,7 @@ fn words_ask(rt: HostRuntime) -> Result<(), Fail> {
     Ok(())
 }
 
-/// Arguments that are known, the program's name among them.
+/// Arguments in memory, with the program's name first.
 #[derive(Clone, Copy)]
 struct Known<'a> {
     arguments: &'a [&'a [u8]],
