@@ -1,4 +1,4 @@
--- What the header of a trace says: which columns there are, and which signals have them.
+-- The meaning of a trace's header: the columns, and the signals that have them.
 
 use Rattle.std.specs.Prelude.{ℕ, ◌≢◌, ◌<◌, ◌==◌, Bool, if◌then◌else◌, Option, Some, None, List, [], ◌∷◌, length, drop}
 use Rattle.std.specs.Prelude.{map, count_by, slice_index, slice_index_or, Result, Ok, Err}
@@ -14,11 +14,11 @@ use Rattle.trace_columns.specs.Blanks.{trimmed}
 use Rattle.trace_columns.specs.declared.header_fault.HeaderFault.{HeaderFault}
 use Rattle.trace_columns.specs.declared.header_fault.HeaderFault.TheVariants.{NoHeader, Missing, Twice}
 
--- a header begins with the number sign
+-- true if the line begins with the number sign, as a header does
 abbrev pub begins_header : List ℕ → Bool
 begins_header line = slice_index line 0 == 35
 
--- the fields of a record, none where there is no record
+-- the fields of a record; none without a record
 abbrev pub record_fields : Option Read → List (List ℕ)
 record_fields None = []
 record_fields (Some read) = read.0
@@ -31,7 +31,7 @@ first_record text = record_fields (next_record default_config state.StartRecord 
 abbrev pub names_of : List ℕ → List (List ℕ)
 names_of line = map trimmed (first_record (drop 1 line))
 
--- how many columns have a name
+-- the number of columns that have a name
 abbrev pub times : List (List ℕ) → List ℕ → ℕ
 times names name = count_by (bytes_eq name) names
 
@@ -39,7 +39,7 @@ times names name = count_by (bytes_eq name) names
 abbrev pub first_place : List (List ℕ) → List ℕ → ℕ
 first_place names name = position_or_len (bytes_eq name) names
 
--- a signal has the one column with its name
+-- the only column with the signal's name, else a fault
 abbrev pub column_of : List (List ℕ) → List ℕ → Result ℕ HeaderFault
 column_of names signal =
     if times names signal == 0 then Err (Missing signal)
@@ -52,7 +52,7 @@ in_front (Ok column) (Ok columns) = Ok (column ∷ columns)
 in_front (Ok column) (Err fault) = Err fault
 in_front (Err fault) others = Err fault
 
--- the columns of signals in order, or the fault of the first that has one
+-- the columns of signals in order, or the fault of the first signal that has one
 abbrev pub columns_of : List (List ℕ) → List (List ℕ) → Result (List ℕ) HeaderFault
 columns_of names [] = Ok []
 columns_of names (signal ∷ signals) = in_front (column_of names signal) (columns_of names signals)
@@ -62,12 +62,12 @@ abbrev pub of_width : ℕ → Result (List ℕ) HeaderFault → Result Columns H
 of_width width (Ok columns) = Ok (record { width = width; of_signal = columns })
 of_width width (Err fault) = Err fault
 
--- what a line says of signals with these names
+-- the columns that a line gives signals with these names, or its fault
 abbrev pub header_meaning : List (List ℕ) → List ℕ → Result Columns HeaderFault
 header_meaning signals line =
     if begins_header line then of_width (length (names_of line)) (columns_of (names_of line) signals) else Err NoHeader
 
--- a program over the columns that were found
+-- a program over the columns that were found, or the fault
 abbrev pub bound_over : Program → Result Columns HeaderFault → Result Program HeaderFault
 bound_over program (Ok columns) = Ok (bound program columns.width columns.of_signal)
 bound_over program (Err fault) = Err fault
@@ -76,7 +76,7 @@ bound_over program (Err fault) = Err fault
 abbrev pub bound_to : Program → List ℕ → Result Program HeaderFault
 bound_to program line = bound_over program (header_meaning (map (λ s. s.name) program.signals) line)
 
--- without a header: each signal in the column of its number
+-- the columns without a header: each signal in the column of its number
 abbrev pub columns_in_order : ℕ → Columns
 columns_in_order count = record { width = count; of_signal = range_with_len 0 count }
 

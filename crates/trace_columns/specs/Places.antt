@@ -9,7 +9,7 @@ use Rattle.trace_columns.specs.declared.names.Places.{Places}
 abbrev pub column_of : List (List ℕ) → List ℕ → Option ℕ
 column_of names name = if times names name == 0 then None else Some (first_place names name)
 
--- the tables have for each name of 1 to 64 bytes its first column, and whether there is another
+-- the tables have the first column of each name of 1 to 64 bytes, and the names with a second column
 pub record AreColumnPlaces (names : List (List ℕ)) (places : Places) : Type 0 where
   pub first : (name : List ℕ) → 1 ≤ length name → length name ≤ 64 → entry_of name places.first ≡ column_of names name
   pub again : (name : List ℕ) → 1 ≤ length name → length name ≤ 64

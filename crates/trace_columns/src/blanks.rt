@@ -1,4 +1,4 @@
-//! Spaces and tabs, which don't count around fields and names.
+//! Spaces and tabs, which are ignored around fields and names.
 
 ghost use Rattle.std.specs.Prelude.{◌≡◌, ◌≤◌, length};
 ghost use Rattle.std.specs.List.{prefix_len, suffix_len};
@@ -25,7 +25,7 @@ fn blanks_at_end(bytes: &[u8]) -> usize
         .count()
 }
 
-/// The bytes without the blanks around them.
+/// Returns the bytes without the blanks around them.
 #[tactic(auto, unfolding(crate::specs::Blanks::trimmed))]
 pub fn trimmed(bytes: &[u8]) -> &[u8]
     ensures { result.now ≡ without_blanks bytes.now }

@@ -26,7 +26,7 @@ struct NamedColumns {
     places: Places,
 }
 
-/// The first record of a text, if it has one.
+/// Returns the first record of a text, if it has one.
 fn first_record(alloc: Global, text: &[u8]) -> Result<Option<ByteRecord>, HeaderFault>
     ensures fields { IfOk result (λ found. option_map fields_of found ≡ option_map (λ read. read.0)
         (next_record default_config state.StartRecord [] [] (strip_bom text.now))) }
@@ -43,7 +43,7 @@ fn first_record(alloc: Global, text: &[u8]) -> Result<Option<ByteRecord>, Header
     }
 }
 
-/// The first record of a text; one without fields where there is none.
+/// Returns the first record of a text, or a record without fields if it has none.
 fn record_or_none(alloc: Global, text: &[u8]) -> Result<ByteRecord, HeaderFault>
     requires { length text.now < MAX_LINE_BYTES }
     ensures fields { IfOk result (λ r. fields_of r ≡ csv_record text.now) }
@@ -76,7 +76,7 @@ fn read_header(alloc: Global, line: &[u8]) -> Result<NamedColumns, HeaderFault>
     }
 }
 
-/// The columns of signals, by their names.
+/// Returns the columns of signals, by their names.
 fn find_columns<T: Named>(
     alloc: Global,
     named: &NamedColumns,
@@ -100,11 +100,11 @@ fn find_columns<T: Named>(
     })
 }
 
-/// Returns the columns of signals by the names of a header, which follow `#` as one record of CSV. Spaces and tabs
-/// around a name don't count.
+/// Returns the columns of signals by the names of a header, which follow `#` as one record of CSV.
+/// Spaces and tabs around a name are ignored.
 ///
-/// Errors: `NoHeader` where the line doesn't begin with `#`; of the first signal whose name doesn't occur exactly
-/// once `Missing` where it doesn't occur, `Twice` where it occurs more than once; `Memory` when out of memory.
+/// Errors: `NoHeader` if the line doesn't begin with `#`; for the first signal whose name doesn't
+/// occur exactly once, `Missing` or `Twice`; `Memory` when out of memory.
 pub fn header(alloc: Global, line: &[u8], signals: &List<Signal>) -> Result<Columns, HeaderFault>
     requires { length line.now < MAX_LINE_BYTES }
     ensures columns { IfOk result (λ columns.
@@ -122,7 +122,7 @@ pub fn header(alloc: Global, line: &[u8], signals: &List<Signal>) -> Result<Colu
     find_columns(alloc, &named, signals.as_slice())
 }
 
-/// The same for the stored signals of a program, in their order.
+/// Returns the columns of a program's stored signals in order, with the errors of [`header`].
 pub fn header_of(alloc: Global, line: &[u8], checked: &Checked) -> Result<Columns, HeaderFault>
     requires version { checked.now.version ≡ 2 }
     requires short { length line.now < MAX_LINE_BYTES }
@@ -141,9 +141,9 @@ pub fn header_of(alloc: Global, line: &[u8], checked: &Checked) -> Result<Column
     find_columns(alloc, &named, checked.program().signals.as_slice())
 }
 
-/// The program with its stored signals in the columns that a header names.
+/// Moves a program's stored signals to the columns that a header names.
 ///
-/// Errors: those of [`header_of`]; the program is dropped then.
+/// Errors: as in [`header_of`]; the program is dropped then.
 pub fn bind_to_header(alloc: Global, checked: Checked, line: &[u8]) -> Result<Checked, HeaderFault>
     requires version { checked.version ≡ 2 }
     requires short { length line.now < MAX_LINE_BYTES }
@@ -155,7 +155,7 @@ pub fn bind_to_header(alloc: Global, checked: Checked, line: &[u8]) -> Result<Ch
     Ok(rebind(checked, &columns))
 }
 
-/// Returns the columns without a header: signal k has column k.
+/// Returns the columns if there is no header: signal k has column k.
 pub fn in_order(alloc: Global, signals: &List<Signal>) -> Result<Columns, AllocError>
     requires { length signals.now < 2 ^ 32 }
     ensures { IfOk result (λ columns. columns ≡ columns_in_order (length signals.now)) }

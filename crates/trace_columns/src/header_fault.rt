@@ -1,4 +1,4 @@
-//! Why a line gives the signals no columns.
+//! Faults of a header.
 
 ghost use Rattle.std.specs.Prelude.{◌≡◌, IfOk};
 
@@ -12,15 +12,15 @@ use std::{fmt, str};
 pub enum HeaderFault {
     /// The line doesn't begin with `#`.
     NoHeader,
-    /// The first signal that doesn't occur exactly once doesn't occur.
+    /// This signal is missing from the header.
     Missing(Name),
-    /// The first signal that doesn't occur exactly once occurs more than once.
+    /// This signal occurs more than once in the header.
     Twice(Name),
     /// Out of memory.
     Memory,
 }
 
-/// Prints the fault; a name that isn't a text is an error.
+/// Prints the fault. A name that isn't UTF-8 is an error.
 impl fmt::Display for HeaderFault {
     ghost use Rattle.std.specs.Prelude.{Some};
     ghost use Rattle.trace_columns.specs.HeaderTexts.{header_fault_text};
@@ -43,7 +43,7 @@ impl fmt::Display for HeaderFault {
     }
 }
 
-/// A name as text, where its bytes are one. Those of signals are letters, digits and `_`.
+/// Returns a name as text, if it is UTF-8. Names of signals are letters, digits and `_`.
 fn text_of(name: &Name) -> Result<&str, fmt::Error>
     ensures { IfOk result (λ text. text.now ≡ name.now) }
 {

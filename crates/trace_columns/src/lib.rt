@@ -1,4 +1,4 @@
-//! The columns of signals: where the header of a trace puts them.
+//! The columns of signals, by the header of a trace.
 //!
 //! A header begins with `#` and names the columns, as one record of CSV.
 #![tactic(auto)]

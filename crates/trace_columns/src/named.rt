@@ -8,7 +8,7 @@ use mltl_base::{Name, Signal, StoredSignal};
 pub(crate) trait Named {
     ghost name_of: { Self → List ℕ };
 
-    /// Its name.
+    /// Returns the name.
     fn name(&self) -> &Name
         ensures { result.now ≡ name_of self.now };
 }

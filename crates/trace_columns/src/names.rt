@@ -1,4 +1,4 @@
-//! The names of a header's columns.
+//! Names of a header's columns.
 
 ghost use Rattle.std.specs.Prelude.{◌≡◌, ◌<◌, ◌≤◌, ◌^◌, ◌++◌, ◌∷◌, [], ℕ, List, Some, length, map, slice_get, OnOk, IfOk};
 ghost use Rattle.csv.specs.Records.{fields_of};
@@ -21,7 +21,7 @@ pub struct Places {
     pub again: NameTable<u32>,
 }
 
-/// A field of a record, without the blanks around it.
+/// Returns a field of a record, without the blanks around it.
 fn name_at(fields: &ByteRecord, c: usize) -> &[u8]
     requires { c < length (fields_of fields.now) }
     ensures { slice_get (map without_blanks (fields_of fields.now)) c ≡ Some result.now }
@@ -42,7 +42,8 @@ impl Places {
         }
     }
 
-    /// Notes the name of the next column. No signal has a name that isn't 1 to 64 bytes long.
+    /// Adds the name of the next column, unless it isn't 1 to 64 bytes long: no signal has such a
+    /// name.
     fn add(&mut self, alloc: Global, name: &[u8], column: u32) -> Result<(), AllocError>
         ensures { OnOk result ((names : List (List ℕ)) → length names ≡ column
             → AreColumnPlaces names self.old
@@ -69,7 +70,7 @@ impl Places {
         Ok(())
     }
 
-    /// The places of the names of a record, without the blanks around them.
+    /// Returns the columns of the names of a record, without the blanks around the names.
     pub fn of(alloc: Global, fields: &ByteRecord) -> Result<Places, AllocError>
         requires { length (fields_of fields.now) < 2 ^ 32 }
         ensures { IfOk result (AreColumnPlaces (map without_blanks (fields_of fields.now))) }
@@ -81,7 +82,7 @@ impl Places {
         Ok(places)
     }
 
-    /// The one column that has a name.
+    /// Returns the only column that has a name.
     pub fn find(&self, name: &Name) -> Result<u32, HeaderFault>
         ensures { (names : List (List ℕ)) → AreColumnPlaces names self.now
             → result ≡ column_of names name.now }
