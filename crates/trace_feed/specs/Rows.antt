@@ -1,4 +1,4 @@
--- What a line of a trace says to a program: a row, nothing, or its first fault.
+-- The meaning of a line of a trace for a program: a row, nothing, or its first fault.
 
 use Rattle.std.specs.Prelude.{◌≡◌, ℕ, suc, ◌==◌, ℤ, pos, neg_ℤ, int_le, Bool, false, ◌&&◌, ◌||◌, if◌then◌else◌, nat_lt}
 use Rattle.std.specs.Prelude.{List, [], ◌∷◌, length, take, drop, Result, Ok, Err}
@@ -17,63 +17,63 @@ use Rattle.trace_feed.specs.declared.fields.Reading.{Reading}
 use Rattle.trace_feed.specs.declared.fields.Reading.TheVariants.{Unread, Whole, Truth}
 use Rattle.trace_feed.specs.declared.rows.RowAnswer as answer
 
--- a comma ends a field
+-- true if the byte is a comma, which ends a field
 abbrev pub is_comma : ℕ → Bool
 is_comma byte = byte == 44
 
--- the fields of a line are between its commas
+-- the fields of a line, which lie between its commas
 abbrev pub fields_of : List ℕ → List (List ℕ)
 fields_of line = slice_split is_comma line
 
--- the fields from a place on, of which there are none past the end
+-- the fields from a place on; none past the end
 abbrev pub fields_from : List ℕ → ℕ → List (List ℕ)
 fields_from line at = if nat_lt (length line) at then [] else fields_of (drop at line)
 
--- an integer is one or more decimal digits, with an optional sign
+-- true if the field is one or more decimal digits, after an optional sign
 abbrev pub is_numeral : List ℕ → Bool
 is_numeral field =
     nat_lt 0 (length (without_leading_sign field)) && list_all is_ascii_digit (without_leading_sign field)
 
--- an integer of 32 bits with its sign
+-- true if the integer has 32 bits with its sign
 abbrev pub has_32_bits : ℤ → Bool
 has_32_bits n = int_le (neg_ℤ (pos 2147483648)) n && int_le n (pos 2147483647)
 
--- a Boolean
+-- true if the integer is a Boolean: 0 or 1
 abbrev pub is_bit : ℤ → Bool
 is_bit n = int_eq n (pos 0) || int_eq n (pos 1)
 
--- a number of the range, else the fault that it is out of it
+-- the number, or a fault if it isn't in the range
 abbrev pub in_range : (ℤ → Bool) → ℤ → Result ℤ FieldFault
 in_range range n = if range n then Ok n else Err OutOfRange
 
--- the number that a field writes, where it writes one, and one of the range
+-- the number of a field, or a fault if it has none or the number isn't in the range
 abbrev pub field_number : (ℤ → Bool) → List ℕ → Result ℤ FieldFault
 field_number range field = if is_numeral field then in_range range (signed_digits_value 10 field) else Err NotWhole
 
--- what a field holds, in a column that is read so; a column that isn't read may hold anything, and counts as 0
+-- the value of a field in a column with this reading; an unread column may hold anything, and counts as 0
 abbrev pub field_value : Reading → List ℕ → Result ℤ FieldFault
 field_value Unread field = Ok (pos 0)
 field_value Whole field = field_number has_32_bits (trimmed field)
 field_value Truth field = field_number is_bit (trimmed field)
 
--- the instruction reads the column as a Boolean
+-- true if the instruction reads the column as a Boolean
 abbrev pub reads_truth : ℕ → bz.BzOp → Bool
 reads_truth c (bz.TheVariants.IsTrue d) = d == c
 reads_truth c op = false
 
--- the instruction reads the column as an integer
+-- true if the instruction reads the column as an integer
 abbrev pub reads_whole : ℕ → bz.BzOp → Bool
 reads_whole c (bz.TheVariants.Column d) = d == c
 reads_whole c op = false
 
--- how instructions read a column: as a Boolean where one of them does
+-- the reading of a column: Boolean if one of the instructions reads a Boolean there
 abbrev pub reading_of : List bz.BzOp → ℕ → Reading
 reading_of ops c =
     if list_any (reads_truth c) ops then Truth
     else if list_any (reads_whole c) ops then Whole
     else Unread
 
--- a row with a number for each column; a blank line, which is none; a line with fewer fields than columns; the first
+-- a row with a number for each column; a blank line, which is no row; a line with fewer fields than columns; the first
 -- column whose field isn't an integer, or isn't in its range
 pub data LineMeaning : Type 0 where
   row : Row → LineMeaning
@@ -90,25 +90,25 @@ put_in_front n too_few = too_few
 put_in_front n (not_whole c) = not_whole c
 put_in_front n (out_of_range c) = out_of_range c
 
--- what the field of column c says, with those after it
+-- the meaning of the field of column c, followed by the meaning of the others
 abbrev pub field_before : ℕ → Result ℤ FieldFault → LineMeaning → LineMeaning
 field_before c (Ok n) others = put_in_front n others
 field_before c (Err NotWhole) others = not_whole c
 field_before c (Err OutOfRange) others = out_of_range c
 
--- the row of the fields of column c and those after it, or the first fault
+-- the row of the fields of column c and the columns after it, or the first fault
 unfoldable pub row_from : (ℕ → Reading) → ℕ → List (List ℕ) → LineMeaning
 row_from reading c [] = row []
 row_from reading c (field ∷ fields) = field_before c (field_value (reading c) field) (row_from reading (suc c) fields)
 
--- what a line says; fields past the width aren't read
+-- the meaning of a line; fields past the width aren't read
 abbrev pub line_meaning : Program → List ℕ → LineMeaning
 line_meaning program line =
     if is_blank_line line then blank
     else if nat_lt (length (fields_of line)) program.width then too_few
     else row_from (reading_of program.bz) 0 (take program.width (fields_of line))
 
--- a result, with the numbers that came with it, is what a line says
+-- a result and its numbers are the meaning of a line
 abbrev pub IsMeaningOf : answer.RowAnswer → Row → LineMeaning → Type 0
 IsMeaningOf answer.TheVariants.Good values meaning = meaning ≡ row values
 IsMeaningOf answer.TheVariants.Blank values meaning = meaning ≡ blank

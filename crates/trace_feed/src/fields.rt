@@ -11,16 +11,16 @@ ghost use Rattle.trace_feed.specs.Rows.{has_32_bits, in_range, is_bit, is_comma,
 use std::str;
 use trace_columns::blanks::trimmed;
 
-/// Why a field has no value.
+/// The reason why a field has no value.
 #[derive(Clone, Copy)]
 pub enum FieldFault {
-    /// It isn't an integer.
+    /// The field isn't an integer.
     NotWhole,
-    /// It is an integer that its column can't hold.
+    /// The field is an integer that its column can't hold.
     OutOfRange,
 }
 
-/// How a program reads a column.
+/// The way in which a program reads a column.
 #[derive(Clone, Copy, PartialEq, Eq)]
 pub enum Reading {
     Unread,
@@ -28,7 +28,7 @@ pub enum Reading {
     Truth,
 }
 
-/// How many bytes the sign of a field takes. It is found without a branch, since signs come in no order.
+/// Returns the number of bytes of a field's sign. It has no branch, since signs come in no order.
 fn sign_size(field: &[u8]) -> usize
     ensures size { result ≡ sign_length field.now }
     ensures within { result ≤ length field.now }
@@ -39,7 +39,7 @@ fn sign_size(field: &[u8]) -> usize
     }
 }
 
-/// The bytes after the sign of a field, if it has one.
+/// Returns the bytes after the sign of a field, if it has one.
 fn without_sign(field: &[u8]) -> &[u8]
     ensures { result.now ≡ without_leading_sign field.now }
 {
@@ -52,7 +52,7 @@ fn are_digits(bytes: &[u8]) -> bool
     bytes.iter().all(|byte| byte.is_ascii_digit())
 }
 
-/// Whether a field is decimal digits, which one sign may lead.
+/// Returns true if a field is decimal digits after an optional sign.
 fn is_numeral(field: &[u8]) -> bool
     ensures { result ≡ writes_number field.now }
 {
@@ -60,7 +60,7 @@ fn is_numeral(field: &[u8]) -> bool
     !digits.is_empty() && are_digits(digits)
 }
 
-/// The number that a field writes, which has 32 bits with its sign.
+/// Returns the number of a field, which must have 32 bits with its sign.
 fn whole_number(field: &[u8]) -> Result<i64, FieldFault>
     ensures { result ≡ field_number has_32_bits field.now }
 {
@@ -76,7 +76,7 @@ fn whole_number(field: &[u8]) -> Result<i64, FieldFault>
     }
 }
 
-/// The number, if it is 0 or 1.
+/// Returns the number, if it is 0 or 1.
 fn truth(number: i64) -> Result<i64, FieldFault>
     ensures { result ≡ in_range is_bit number }
 {
@@ -87,14 +87,14 @@ fn truth(number: i64) -> Result<i64, FieldFault>
     }
 }
 
-/// The truth that a field writes.
+/// Returns the Boolean of a field, as 0 or 1.
 fn truth_number(field: &[u8]) -> Result<i64, FieldFault>
     ensures { result ≡ field_number is_bit field.now }
 {
     truth(whole_number(field)?)
 }
 
-/// The value of a field in a column that is read so; 0 where it isn't read.
+/// Returns the value of a field in a column with this reading; 0 if it isn't read.
 fn value_of(reading: Reading, field: &[u8]) -> Result<i64, FieldFault>
     ensures { result ≡ value_in reading field.now }
 {
@@ -105,7 +105,7 @@ fn value_of(reading: Reading, field: &[u8]) -> Result<i64, FieldFault>
     }
 }
 
-/// The number, if it has 32 bits with its sign.
+/// Returns the number, if it has 32 bits with its sign.
 fn whole(number: i64) -> Result<i64, FieldFault>
     ensures { result ≡ in_range has_32_bits number }
 {
@@ -116,7 +116,7 @@ fn whole(number: i64) -> Result<i64, FieldFault>
     }
 }
 
-/// The value of a number in a column that is read so.
+/// Returns the value of a number in a column with this reading.
 fn value_at(reading: Reading, number: i64) -> Result<i64, FieldFault>
     ensures { result ≡ value_with reading number }
 {
@@ -127,17 +127,17 @@ fn value_at(reading: Reading, number: i64) -> Result<i64, FieldFault>
     }
 }
 
-/// How many digits are gathered at most, so that their number stays small.
+/// The most digits that are read, so that their number stays small.
 const MOST_DIGITS: usize = 18;
 
-/// Returns the number of the digits at the start of bytes, and how many they are.
+/// The number of the digits at the start of bytes, and the count of these digits.
 #[derive(Clone, Copy)]
 struct Digits {
     number: u64,
     size: usize,
 }
 
-/// Gathers the digits at the front, up to 18.
+/// Reads up to 18 digits at the front.
 fn leading_digits(bytes: &[u8]) -> Digits
     ensures within { result.size ≤ length bytes.now }
     ensures digits { AllDigits 10 (take result.size bytes.now) }
@@ -156,14 +156,14 @@ fn leading_digits(bytes: &[u8]) -> Digits
     Digits { number, size: most }
 }
 
-/// An integer at the start of a line, and how many bytes write it.
+/// An integer at the start of a line, and the number of its bytes.
 #[derive(Clone, Copy)]
 struct Numeral {
     number: i64,
     size: usize,
 }
 
-/// The number with its sign.
+/// Returns the number with its sign.
 fn signed(minus: bool, number: u64) -> i64
     requires { number < 2 ^ 63 }
     ensures { result ≡ if minus then neg_ℤ (pos number) else pos number }
@@ -172,7 +172,7 @@ fn signed(minus: bool, number: u64) -> i64
     if minus { -number } else { number }
 }
 
-/// Returns the integer with which a line begins, with an optional sign and up to 18 digits.
+/// Returns the integer at the start of a line, with an optional sign and up to 18 digits.
 fn leading_numeral(line: &[u8]) -> Option<Numeral>
     ensures within { IfSome result (λ n. n.size ≤ length line.now) }
     ensures numeral { IfSome result (λ n. IsTrue (writes_number (take n.size line.now))) }
@@ -190,7 +190,7 @@ fn leading_numeral(line: &[u8]) -> Option<Numeral>
     })
 }
 
-/// Whether the first field may end there: at a comma, or at the end.
+/// Returns true if the first field may end there: at a comma, or at the end.
 fn may_end(line: &[u8], size: usize) -> bool
     requires { size ≤ length line.now }
     ensures { IsTrue result → size < length line.now
@@ -199,7 +199,7 @@ fn may_end(line: &[u8], size: usize) -> bool
     size == line.len() || line[size] == b','
 }
 
-/// Returns the integer that is the first field of a line, where no blank surrounds it.
+/// Returns the integer that is the first field of a line, if no blank surrounds it.
 fn plain_field(line: &[u8]) -> Option<Numeral>
     ensures size { IfSome result (λ n. n.size ≡ position_or_len is_comma line.now) }
     ensures within { IfSome result (λ n. n.size ≤ length line.now) }
@@ -214,7 +214,7 @@ fn plain_field(line: &[u8]) -> Option<Numeral>
     }
 }
 
-/// How many bytes there are before the first comma.
+/// Returns the number of bytes before the first comma.
 fn field_size(line: &[u8]) -> usize
     ensures first { result ≡ position_or_len is_comma line.now }
     ensures within { result ≤ length line.now }
@@ -222,14 +222,14 @@ fn field_size(line: &[u8]) -> usize
     line.iter().take_while(|byte| **byte != b',').count()
 }
 
-/// A field at the start of a line: its value, and how many bytes it has.
+/// A field at the start of a line: its value, and the number of its bytes.
 #[derive(Clone, Copy)]
 pub struct Field {
     pub value: Result<i64, FieldFault>,
     pub size: usize,
 }
 
-/// The first field of a line, which ends at its first comma, in a column that is read so.
+/// Returns the first field of a line, up to its first comma, in a column with this reading.
 pub fn first_field(reading: Reading, line: &[u8]) -> Field
     ensures value { result.value ≡ value_in reading (before_first is_comma line.now) }
     ensures size { result.size ≡ position_or_len is_comma line.now }

@@ -1,4 +1,4 @@
-//! What rows have: each law is the contract of a function with an empty body.
+//! Laws of rows: each is the contract of an empty function.
 
 ghost use Rattle.std.specs.Prelude.{◌≡◌, ℕ, List};
 ghost use Rattle.mltl_base.specs.declared.program.Program.{Program as Observer};

@@ -1,7 +1,7 @@
 //! The rows of a trace.
 //!
-//! A row is cut at its commas and nowhere else, and read without memory: of a checked program, the columns that its
-//! instructions name.
+//! A row is cut only at its commas, and read without allocation, in the columns that instructions
+//! of a checked program name.
 #![tactic(auto)]
 
 mod fields;

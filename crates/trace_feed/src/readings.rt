@@ -1,5 +1,5 @@
-//! How a program reads each column of a row. This is found once, so that no row looks for its columns among the
-//! instructions.
+//! The readings of a program's columns. They are computed once, so that no row looks up its columns
+//! in the instructions.
 
 ghost use Rattle.std.specs.Prelude.{◌≡◌, ◌++◌, ◌∷◌, [], IfOk, length, slice_index_or, slice_set, List as Items};
 ghost use Rattle.mltl_base.specs.declared.operators.BzOp.{BzOp as Op};
@@ -13,7 +13,7 @@ use obs_verify::Checked;
 use std::alloc::{AllocError, Global};
 use std::marker::Model;
 
-/// How a program reads each of its columns, which contracts see as that list.
+/// The reading of each column of a program, which contracts see as that list.
 #[derive(Drop)]
 pub struct Readings {
     columns: Fixed<Reading>,
@@ -39,7 +39,7 @@ fn stronger(first: Reading, second: Reading) -> Reading
     }
 }
 
-/// Raises the reading of a column, where it isn't as strong.
+/// Raises the reading of a column, unless it is as strong.
 fn raise(readings: &mut [Reading], c: u32, reading: Reading)
     ensures { readings.new ≡ slice_set readings.old c
         (stronger_of (slice_index_or readings.old c Unread) reading) }
@@ -63,7 +63,7 @@ fn note(readings: &mut [Reading], op: &BzOp)
     }
 }
 
-/// Notes how each instruction reads its column.
+/// Raises the readings of the columns that the instructions read.
 fn note_all(readings: &mut [Reading], ops: &[BzOp])
     requires { AreReadings (reading_of []) readings.old }
     ensures many { length readings.new ≡ length readings.old }
@@ -75,7 +75,7 @@ fn note_all(readings: &mut [Reading], ops: &[BzOp])
 }
 
 impl Readings {
-    /// Makes the readings of a program; the only allocation.
+    /// Computes the readings of a program. No other call allocates.
     pub fn of(alloc: Global, checked: &Checked) -> Result<Readings, AllocError>
         ensures readings { IfOk result (λ readings. readings ≡ readings_of checked.now) }
         ensures wide { IfOk result (λ readings. length readings ≡ checked.now.width) }
@@ -86,7 +86,7 @@ impl Readings {
         Ok(Readings { columns })
     }
 
-    /// All readings, in the order of the columns.
+    /// Returns all readings, in the order of the columns.
     pub fn as_slice(&self) -> &[Reading]
         ensures { result.now ≡ self.now }
     {

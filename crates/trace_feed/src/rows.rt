@@ -15,22 +15,22 @@ use mltl_base::BzOp;
 use mltl_base::blanks::is_blank_line;
 use obs_verify::Checked;
 
-/// What a line is to a program. Columns count from 0.
+/// The result of reading a line as a row of a program. Columns count from 0.
 #[derive(Clone, Copy, PartialEq, Eq, Debug)]
 pub enum RowAnswer {
-    /// A row, whose numbers were read.
+    /// The line is a row, and its numbers were read.
     Good,
-    /// Nothing but spaces and tabs.
+    /// The line has nothing but spaces and tabs.
     Blank,
-    /// It has fewer fields than a row has columns.
+    /// The line has fewer fields than a row has columns.
     Width,
-    /// The first field with a fault isn't an integer.
+    /// The first field with a fault, in this column, isn't an integer.
     NotWhole(u32),
-    /// The first field with a fault is a number that its column can't hold.
+    /// The first field with a fault, in this column, is a number that its column can't hold.
     OutOfRange(u32),
 }
 
-/// How many commas there are. Each turn adds without a branch, so that several bytes are compared at once.
+/// Counts the commas. It has no branch, so that several bytes are compared at once.
 fn commas(line: &[u8]) -> usize
     ensures { result ≡ count_by is_comma line.now }
 {
@@ -41,7 +41,8 @@ fn commas(line: &[u8]) -> usize
     count
 }
 
-/// What a fault of the field at column c makes of a line, which should have this many fields from here on.
+/// Returns the result of a line whose field in column `c` has a fault. From there on it should have
+/// `left` fields.
 fn fault_at(c: u32, fault: FieldFault, rest: &[u8], left: u32) -> RowAnswer
     requires some { 0 < left }
     ensures { (reading : ℕ → Way) (values : Row) →
@@ -57,8 +58,8 @@ fn fault_at(c: u32, fault: FieldFault, rest: &[u8], left: u32) -> RowAnswer
     }
 }
 
-/// Reads the fields of a line from left to right, once. Those that aren't read are passed over by their commas; after a
-/// field that is read, commas are counted only where it has a fault.
+/// Reads the fields of a line from left to right, once. Unread fields are skipped by their commas;
+/// after a field that is read, commas are counted only if it has a fault.
 fn read_fields(line: &[u8], width: u32, readings: &[Reading], fields: &mut [i64]) -> RowAnswer
     requires wide { length fields.old ≡ width }
     requires one_each { length readings.now ≡ width }
@@ -86,7 +87,7 @@ fn read_fields(line: &[u8], width: u32, readings: &[Reading], fields: &mut [i64]
     RowAnswer::Good
 }
 
-/// Whether some instruction reads this column as a Boolean.
+/// Returns true if some instruction reads this column as a Boolean.
 fn is_truth(ops: &[BzOp], c: u32) -> bool
     ensures { result ≡ list_any (reads_truth c) ops.now }
 {
@@ -94,7 +95,7 @@ fn is_truth(ops: &[BzOp], c: u32) -> bool
         .any(|op| matches!(*op, BzOp::IsTrue(d) if d == c))
 }
 
-/// Whether some instruction reads this column as an integer.
+/// Returns true if some instruction reads this column as an integer.
 fn is_whole(ops: &[BzOp], c: u32) -> bool
     ensures { result ≡ list_any (reads_whole c) ops.now }
 {
@@ -102,7 +103,7 @@ fn is_whole(ops: &[BzOp], c: u32) -> bool
         .any(|op| matches!(*op, BzOp::Column(d) if d == c))
 }
 
-/// How the instructions read this column.
+/// Returns the reading of this column by the instructions.
 fn reading_in(ops: &[BzOp], c: u32) -> Reading
     ensures { result ≡ reading_of ops.now c }
 {
@@ -115,7 +116,7 @@ fn reading_in(ops: &[BzOp], c: u32) -> Reading
     }
 }
 
-/// Reads the fields of a line from left to right, and looks for each column among the instructions.
+/// Reads the fields of a line from left to right, and looks up each column in the instructions.
 fn search_fields(line: &[u8], width: u32, ops: &[BzOp], fields: &mut [i64]) -> RowAnswer
     requires wide { length fields.old ≡ width }
     ensures { IsMeaningOf result fields.new
@@ -137,15 +138,16 @@ fn search_fields(line: &[u8], width: u32, ops: &[BzOp], fields: &mut [i64]) -> R
     RowAnswer::Good
 }
 
-/// Reads a line into a number for each column: the columns that the program's instructions read, and 0 for the
-/// others. It does not allocate. Where the result isn't `Good`, the numbers have no meaning.
+/// Reads a line into a number for each column: the field, or 0 if no instruction of the program
+/// reads the column. Does not allocate. Unless the result is `Good`, the numbers have no meaning.
 ///
-/// A line is cut at each comma; spaces and tabs around a field don't count, and neither do fields past the width. A
-/// field that is read is one or more decimal digits, with an optional sign: 0 or 1 where some instruction reads its
-/// column as a Boolean, else from -2,147,483,648 to 2,147,483,647. Of several faults the first is returned: too few
-/// fields, then the columns from left to right.
+/// A line is cut at each comma; spaces and tabs around a field and fields past the width are
+/// ignored. A field that is read is one or more decimal digits, with an optional sign: 0 or 1 if
+/// some instruction reads its column as a Boolean, else from -2,147,483,648 to 2,147,483,647. Of
+/// several faults the first is returned: too few fields, then the columns from left to right.
 ///
-/// Each column is looked for among the instructions. To read many lines, keep `Readings` and call `row_fields_by`.
+/// Each column is looked up in the instructions. To read many lines, keep `Readings` and call
+/// `row_fields_by`.
 pub fn row_fields(line: &[u8], checked: &Checked, fields: &mut [i64]) -> RowAnswer
     requires wide { length fields.old ≡ checked.now.width }
     ensures told { IsMeaningOf result fields.new (line_meaning checked.now line.now) }
@@ -158,7 +160,7 @@ pub fn row_fields(line: &[u8], checked: &Checked, fields: &mut [i64]) -> RowAnsw
     search_fields(line, program.width, program.bz.as_slice(), fields)
 }
 
-/// Reads a line as `row_fields` does, by the readings of the program, which were found once.
+/// Reads a line as `row_fields` does, by the program's readings, which are computed only once.
 pub fn row_fields_by(
     line: &[u8],
     checked: &Checked,

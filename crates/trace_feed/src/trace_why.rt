@@ -1,15 +1,15 @@
-//! Why a line of a trace is refused.
+//! Faults of a line of a trace.
 
 use mltl_base::Name;
 
-/// What is wrong with a line of a trace. Columns count from 0.
+/// A fault of a line of a trace. Columns count from 0.
 #[derive(Drop)]
 pub enum TraceWhy {
-    /// Too few fields.
+    /// The line has too few fields.
     Width,
-    /// A field that isn't an integer.
+    /// The field in this column isn't an integer.
     NotWhole(u32),
-    /// An integer outside the range of its column.
+    /// The field in this column is an integer outside its range.
     OutOfRange(u32),
     /// The first 65,536 bytes hold no newline.
     LongLine,
@@ -19,6 +19,6 @@ pub enum TraceWhy {
     Twice(Name),
     /// The line doesn't begin with a time stamp.
     Stamp,
-    /// A time that isn't above the one before.
+    /// The time isn't above the time before it.
     Order,
 }

@@ -1,4 +1,4 @@
-//! Fields that are passed over, since no instruction reads them.
+//! Fields that are skipped, since no instruction reads them.
 
 ghost use Rattle.std.specs.Prelude.{◌≡◌, ◌≢◌, ◌+◌, ◌<◌, ◌≤◌, ℕ, ◌^◌, ◌++◌, pos, count_by, drop, length, replicate, slice_index_or, take};
 ghost use Rattle.trace_feed.specs.declared.fields.Reading.TheVariants.{Unread};
@@ -7,20 +7,20 @@ ghost use Rattle.trace_feed.specs.Rows.{fields_from, is_comma};
 
 use crate::fields::Reading;
 
-/// How many bytes are passed over at once, where they hold too few commas.
+/// The bytes that are skipped at once if they hold too few commas.
 const BLOCK: usize = 64;
 
-/// How many fields have to be left for that.
+/// The number of fields that must be left for that.
 const MANY: usize = 16;
 
-/// Where a line is read on: the next column, and where its field begins.
+/// The place to read on in a line: the next column, and the start of its field.
 #[derive(Clone, Copy)]
 pub struct Spot {
     pub column: u32,
     pub at: usize,
 }
 
-/// How many columns from column `c` on aren't read, up to the first that is.
+/// Returns the number of unread columns from column `c` on, up to the first that is read.
 fn unread_from(readings: &[Reading], c: usize) -> usize
     requires { c ≤ length readings.now }
     ensures within { c + result ≤ length readings.now }
@@ -36,7 +36,7 @@ fn unread_from(readings: &[Reading], c: usize) -> usize
     count
 }
 
-/// Puts 0 into `count` columns.
+/// Writes 0 to `count` columns.
 fn clear(fields: &mut [i64], from: usize, count: usize)
     requires { from + count ≤ length fields.old }
     ensures wide { length fields.new ≡ length fields.old }
@@ -48,7 +48,7 @@ fn clear(fields: &mut [i64], from: usize, count: usize)
     }
 }
 
-/// How many commas a block has. They are counted in bytes, so that many are compared at once.
+/// Counts the commas of a block. The count is a byte, so that many bytes are compared at once.
 fn commas_in(block: &[u8]) -> u8
     requires { length block.now ≤ BLOCK }
     ensures { result ≡ count_by is_comma block.now }
@@ -60,7 +60,7 @@ fn commas_in(block: &[u8]) -> u8
     count
 }
 
-/// Returns the index after `count` fields from an index on, and one past the end where there are fewer.
+/// Returns the index after `count` fields from an index on, or one past the end if there are fewer.
 fn after_fields(line: &[u8], from: usize, count: usize) -> usize
     requires within { from ≤ length line.now + 1 }
     ensures within { result ≤ length line.now + 1 }
@@ -86,8 +86,8 @@ fn after_fields(line: &[u8], from: usize, count: usize) -> usize
     if left == 0 { at } else { line.len() + 1 }
 }
 
-/// Passes over the columns from here on that aren't read, up to the first that is, or to the last one. Their number
-/// is 0.
+/// Skips the unread columns from here on, up to the first that is read or the last one. Their
+/// number is 0.
 pub fn pass_unread(line: &[u8], readings: &[Reading], fields: &mut [i64], spot: Spot) -> Spot
     requires wide { length fields.old ≡ length readings.now }
     requires within { spot.column < length readings.now }
