@@ -25,7 +25,8 @@ fn answers<H: Host>(host: &mut H, step: Step, into: &mut [u8]) -> bool {
     }
 }
 
-/// Makes a host with room for `events` events and `bytes` bytes, and with a file `rows` of four bytes.
+/// Makes a host with room for `events` events and `bytes` bytes, and with a file `rows` of four
+/// bytes.
 fn with_rows(alloc: Global, events: usize, bytes: usize) -> Result<MemHost, AllocError> {
     let mut host = MemHost::make(alloc, events, bytes)?;
     host.put_file("rows", b"none")?;

@@ -5,7 +5,7 @@ use std::env::{Env, FillError};
 use std::test::Fail;
 use tool_words::{Words, c2po_ask, r2u2_ask};
 
-/// The arguments, separated by one blank; `~` is an empty argument.
+/// Splits the arguments at single blanks; `~` is an empty argument.
 fn parted(alloc: Global, text: &str) -> Result<Words, AllocError> {
     let mut words = Words::new(alloc);
     for word in text.split(' ') {

@@ -12,7 +12,8 @@ use std::alloc::{AllocError, Global};
 use std::marker::Model;
 use std::sync::ledger::Ledger;
 
-/// The outputs of a program: the next time of each, counted in rows from 0. Contracts see these times in order.
+/// The outputs of a program: the next time of each, counted in rows from 0. Contracts see these
+/// times in order.
 #[derive(Drop)]
 pub struct Outs {
     times: Fixed<u64>,

@@ -1,7 +1,8 @@
 //! A plain and slow program that computes the definitions of meaning: known verdicts, words and
 //! reports.
 //!
-//! It keeps all rows and makes every list from scratch, so it serves to check the engines and for nothing else.
+//! It keeps all rows and makes every list from scratch, so it serves to check the engines and for
+//! nothing else.
 #![tactic(auto)]
 
 pub mod formula;

@@ -12,8 +12,9 @@ ghost use Rattle.mltl_tools.specs.Sentence.{AreLongestByRow, HasCompiled, HasWat
 /// program over a trace, both with success, the lines report the text's own formulas over the rows
 /// of the trace.
 ///
-/// Each time is reported once and in order, with a word that is settled whatever rows follow, and no later than its
-/// delay. The program may be in simplified form. Nothing but its bytes passes from the first run to the second.
+/// Each time is reported once and in order, with a word that is settled whatever rows follow, and
+/// no later than its delay. The program may be in simplified form. Nothing but its bytes passes
+/// from the first run to the second.
 pub fn compiled_and_watched()
     ensures { (compiling watching : Seq (Seq ℕ)) (text bytes : Seq ℕ) (header : Maybe (Seq ℕ))
         (asked : RunAsked) (made ran : Seq Event) →
@@ -21,8 +22,9 @@ pub fn compiled_and_watched()
         ReportsText text header asked bytes ran }
 {}
 
-/// Two reports of one word, at times 0 and 1, aren't in the style of runs if nothing is known of their output after the
-/// first of two rows: the second row decides both times, so one report would cover them.
+/// Two reports of one word, at times 0 and 1, aren't in the style of runs if nothing is known of
+/// their output after the first of two rows: the second row decides both times, so one report would
+/// cover them.
 pub fn one_by_one_is_not_longest()
     ensures { (o : Output) (first second : Row) (w : Told) → words (first ∷ []) o ≡ [] →
         ¬ AreLongestByRow (o ∷ []) (told_one_by_one w) (first ∷ second ∷ []) }

@@ -6,8 +6,8 @@ ghost use Rattle.r2u2_c.specs.Queries.{WritesName, ended};
 use crate::fault::fill_front;
 use mltl_base::Name;
 
-/// Writes a name to the start of a buffer, and a zero byte after it if there is room for one. Returns the length of the
-/// name, or 0 if the buffer is shorter.
+/// Writes a name to the start of a buffer, and a zero byte after it if there is room for one.
+/// Returns the length of the name, or 0 if the buffer is shorter.
 pub(crate) fn write_name(name: &Name, buffer: &mut [u8]) -> u32
     ensures named { 0 < result → WritesName name.now result buffer.old buffer.new }
     ensures untold { result ≡ 0 → buffer.new ≡ buffer.old }

@@ -1,7 +1,7 @@
 //! The runs of the monitor `r2u2`: its top call and the phases of it.
 //!
-//! [`r2u2_main`] reads the arguments, and the specification or the program that they name. Then [`run_bytes`] runs
-//! over the trace; or the demo runs, which needs no file.
+//! [`r2u2_main`] reads the arguments, and the specification or the program that they name. Then
+//! [`run_bytes`] runs over the trace; or the demo runs, which needs no file.
 //!
 //! [`run_bytes`]: crate::run_bytes
 #![tactic(auto)]

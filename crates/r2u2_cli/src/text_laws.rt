@@ -13,7 +13,8 @@ ghost use Rattle.r2u2_cli.specs.ProgramBy.{program_by};
 ghost use Rattle.r2u2_cli.specs.Formulas.{TellsImage, TellsSimple};
 ghost use Rattle.r2u2_cli.specs.Settled.{TellsText};
 
-/// A program file that is the image of a specification reports the specification's plain formulas, under its names.
+/// A program file that is the image of a specification reports the specification's plain formulas,
+/// under its names.
 ///
 /// In version 2 these are over the columns that the header of the trace names, or without a header
 /// over the image's own columns. Images in simplified form report them too: each word is settled

@@ -5,7 +5,8 @@ ghost use Rattle.std.specs.Borrow.{ftrue};
 
 use std::marker::Model;
 
-/// The row that a monitor has taken last. Contracts see its numbers; it has no bytes, and nothing is copied.
+/// The row that a monitor has taken last. Contracts see its numbers; it has no bytes, and nothing
+/// is copied.
 #[derive(Drop)]
 pub struct LastRow {
     pub ghost numbers: { List ℤ },

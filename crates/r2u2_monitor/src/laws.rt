@@ -72,7 +72,8 @@ pub fn fields_hold_what_is_counted()
         → bytes_in_monitor fields ≡ bytes_of (monitor_shown.view fields) }
 {}
 
-/// The Booleanizer, the outputs and the readings of columns have one list each, which contracts see.
+/// The Booleanizer, the outputs and the readings of columns have one list each, which contracts
+/// see.
 pub fn fields_hold_one_list()
     ensures numbers { (fields : BzFields)
         → bytes_in_booleanizer fields ≡ NUMBER_BYTES * length (bz_shown.view fields) }
@@ -107,8 +108,8 @@ pub fn reads_are_kept()
         → length rows ≤ slice_index (places_of monitor) k + queue_width (program_of monitor) g }
 {}
 
-/// The first report that is open covers the times from its output's next time up to its own, and its word is settled at
-/// each of them.
+/// The first report that is open covers the times from its output's next time up to its own, and
+/// its word is settled at each of them.
 #[tactic(auto, using(crate::proofs::Settled::first_covers, crate::proofs::Settled::first_is_settled))]
 pub fn reports_are_settled()
     ensures upward { (style : Form) (monitor : Shown) (rows : List Row)

@@ -16,8 +16,8 @@ use std::marker::{Brand, Model};
 use std::sync::ledger::{Blank, Ledger};
 use trace_feed::{Readings, RowAnswer, row_fields_by};
 
-/// A monitor of a checked program. It takes rows one by one, and returns the reports of each row before it takes the
-/// next. `load` allocates all its memory. Contracts see its state.
+/// A monitor of a checked program. It takes rows one by one, and returns the reports of each row
+/// before it takes the next. `load` allocates all its memory. Contracts see its state.
 #[derive(Drop)]
 pub struct Monitor {
     running: Running,
@@ -84,8 +84,8 @@ impl Monitor {
         })
     }
 
-    /// Resets the monitor to its state before the first row; it can take up to `MAX_MISSION` rows again. It neither
-    /// allocates nor frees.
+    /// Resets the monitor to its state before the first row; it can take up to `MAX_MISSION` rows
+    /// again. It neither allocates nor frees.
     pub fn reset(&mut self)
         ensures program { program_of self.new ≡ program_of self.old }
         ensures taken { taken_by self.new ≡ 0 }

@@ -15,7 +15,8 @@ use pt_boxes::Pt;
 use std::alloc::{AllocError, Global};
 use std::sync::ledger::Ledger;
 
-/// A checked program, its Booleanizer, its engines, its outputs, and the number of rows that they have taken.
+/// A checked program, its Booleanizer, its engines, its outputs, and the number of rows that they
+/// have taken.
 #[derive(Drop)]
 pub struct Running {
     pub checked: Checked,

@@ -1,8 +1,8 @@
 //! The definitions of meaning, computed by the plain program over the formula and the rows of a
 //! run.
 //!
-//! Operators follow their operands, as in `a b U0,3`: `a` and `b` are the first two columns as Booleans, `x` is the
-//! first one as an integer.
+//! Operators follow their operands, as in `a b U0,3`: `a` and `b` are the first two columns as
+//! Booleans, `x` is the first one as an integer.
 
 ghost use Rattle.std.specs.Prelude.{◌^◌, ◌≤◌, length};
 

@@ -41,7 +41,8 @@ fn print_head(rt: &impl Print, case: &str, asked: &Asked, setting: Setting) -> R
     Ok(())
 }
 
-/// Prints that the output after `lines` lines of the trace differs from what the script expects by then.
+/// Prints that the output after `lines` lines of the trace differs from what the script expects by
+/// then.
 pub fn print_untimely(
     rt: &impl Print,
     alloc: Global,
