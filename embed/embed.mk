@@ -16,9 +16,9 @@ EMBED = build/$(TARGET)
 TRIES = $(EMBED)/tries
 GRANT = examples/embed/grant.bin
 EXPECTED = examples/embed/grant.expected
-WARNED = -std=c11 -Wall -Wextra -Iinclude
+WARNED = -std=c11 -Wall -Wextra -Iembed/include
 ARENA = embed/src/arena.c
-HEADERS = include/r2u2.h include/r2u2_port.h include/r2u2_checked.h include/r2u2.hpp
+HEADERS = embed/include/r2u2.h embed/include/r2u2_port.h embed/include/r2u2_checked.h embed/include/r2u2.hpp
 SOURCES = embed/src/arena.c embed/src/memory.c embed/src/heap.c
 
 ifeq ($(TARGET),x86_64)
@@ -123,12 +123,12 @@ check-bytes: | $(TRIES)
 # whole program has no malloc.
 check-flight: | $(TRIES)
 	embed/constant grant_program $(GRANT) > $(TRIES)/grant_program.h
-	$(TARGET_CC) $(WARNED) -I$(TRIES) -O2 -ffreestanding -nostdlib -r -o $(TRIES)/flight.o embed/flight/flight.c $(ARENA) $(EMBED)/libr2u2.a -lgcc
+	$(TARGET_CC) $(WARNED) -I$(TRIES) -O2 -ffreestanding -nostdlib -r -o $(TRIES)/flight.o embed/tests/flight/flight.c $(ARENA) $(EMBED)/libr2u2.a -lgcc
 	$(TARGET_NM) -u $(TRIES)/flight.o | awk 'NF { print $$2 }' | sort > $(TRIES)/flight.asks
 	printf '%s\n' memcpy memmove memset | cmp - $(TRIES)/flight.asks
 	$(TARGET_CC) $(WARNED) -O2 -ffreestanding -fno-builtin -nostdlib -r -o $(TRIES)/alone.o embed/src/memory.c $(TRIES)/flight.o
 	! $(TARGET_NM) -u $(TRIES)/alone.o | grep .
-	$(TARGET_CC) $(WARNED) -Iembed/flight -O2 $(if $(RUN),,-Wl$(comma)-Map=$(TRIES)/flight.map) -o $(TRIES)/flight embed/flight/ground.c $(TRIES)/flight.o
+	$(TARGET_CC) $(WARNED) -Iembed/tests/flight -O2 $(if $(RUN),,-Wl$(comma)-Map=$(TRIES)/flight.map) -o $(TRIES)/flight embed/tests/flight/ground.c $(TRIES)/flight.o
 	@[ -n '$(RUN)' ] || { test -s $(TRIES)/flight.map && ! grep -wE 'malloc|calloc|realloc|free|printf' $(TRIES)/flight.map; }
 	$(if $(RUN),$(RUN),env -i sh -c 'ulimit -s 64; exec "$$0"') $(TRIES)/flight > $(TRIES)/flight.out
 	cmp $(TRIES)/flight.out $(EXPECTED)
@@ -149,12 +149,12 @@ check-grants:
 
 # The part that flies without an operating system and a C library, on a machine that qemu-system emulates. Some versions
 # of it print what is written by semihosting on the error output.
-BARE = $(WARNED) -I$(TRIES) -Iembed/flight -O2 -ffreestanding -fno-builtin -nostdlib -static
-BARE_LINK = -T embed/bare/bare.ld -Wl,--build-id=none,--no-warn-rwx-segments
+BARE = $(WARNED) -I$(TRIES) -Iembed/tests/flight -O2 -ffreestanding -fno-builtin -nostdlib -static
+BARE_LINK = -T embed/tests/bare/bare.ld -Wl,--build-id=none,--no-warn-rwx-segments
 
 check-bare: | $(TRIES)
 	@if command -v qemu-system-$(TARGET) > /dev/null; then set -e; \
-	  $(TARGET_LINK) $(BARE) $(BARE_LINK) -o $(TRIES)/bare embed/bare/start.S embed/bare/ground.c embed/flight/flight.c \
+	  $(TARGET_LINK) $(BARE) $(BARE_LINK) -o $(TRIES)/bare embed/tests/bare/start.S embed/tests/bare/ground.c embed/tests/flight/flight.c \
 	    $(ARENA) embed/src/memory.c $(EMBED)/libr2u2.a -lgcc; \
 	  timeout 60 qemu-system-$(TARGET) -M virt -cpu cortex-a53 -nographic -nic none -semihosting -kernel $(TRIES)/bare \
 	    < /dev/null 2>&1 | tr -d '\r' | cmp - $(EXPECTED); \
@@ -172,7 +172,7 @@ check-frameworks: | $(TRIES)
 	$(TARGET_CC) $(FRAMEWORKS) -o $(TRIES)/zephyr examples/embed/zephyr/watch_thread.c $(STATIC)
 	@set -e; for name in cfs freertos zephyr; do $(RUN) $(TRIES)/$$name | cmp - examples/embed/$$name/expected; done
 
-FRAMEWORKS_CPP = -Wall -Wextra -Iinclude -Iexamples/embed/stubs -I$(TRIES)
+FRAMEWORKS_CPP = -Wall -Wextra -Iembed/include -Iexamples/embed/stubs -I$(TRIES)
 HEAP = $(EMBED)/libr2u2.a $(EMBED)/libr2u2_heap.a
 
 check-frameworks-cpp: check-frameworks
@@ -189,10 +189,10 @@ STRICT_CPP = -std=c++11 -Wall -Wextra -Wshadow -Wold-style-cast -Wconversion -We
 
 check-cpp: | $(TRIES)
 	@if command -v $(firstword $(CXX)) > /dev/null; then set -e; \
-	  $(CXX) $(STRICT_CPP) $(STRICT) -Iinclude -o $(TRIES)/grants_cpp embed/tests/grants.cpp $(EMBED)/libr2u2.a $(EMBED)/libr2u2_heap.a; \
+	  $(CXX) $(STRICT_CPP) $(STRICT) -Iembed/include -o $(TRIES)/grants_cpp embed/tests/grants.cpp $(EMBED)/libr2u2.a $(EMBED)/libr2u2_heap.a; \
 	  $(TRIES)/grants_cpp $(GRANT) > $(TRIES)/cpp.out; cmp $(TRIES)/cpp.out $(EXPECTED); \
 	  for header in $(notdir $(HEADERS)); do echo "#include \"$$header\"" | \
-	    $(CXX) $(STRICT_CPP) -fno-exceptions -fno-rtti -Iinclude -fsyntax-only -x c++ -; done; \
+	    $(CXX) $(STRICT_CPP) -fno-exceptions -fno-rtti -Iembed/include -fsyntax-only -x c++ -; done; \
 	else echo 'check-embed: no compiler of C++, so its example is passed over'; fi
 
 CARGO = R2U2_LIBRARIES=$(abspath $(EMBED)) R2U2_PROGRAM=$(abspath $(GRANT)) cargo
@@ -246,7 +246,7 @@ check-python: python | $(TRIES)
 
 INSTALLED_LIBRARIES = libr2u2.a libr2u2_heap.a libr2u2_arena.a
 MANUALS = r2u2 r2u2_arena r2u2_wrappers
-INSTALLED_HEADERS = $(HEADERS)
+INSTALLED_HEADERS = embed/include/r2u2.h embed/include/r2u2_port.h embed/include/r2u2_checked.h embed/include/r2u2.hpp
 INSTALLED_SOURCES = $(SOURCES) embed/constant examples/embed/grants.c
 INSTALLED_MODULE = embed/python/r2u2/__init__.py embed/python/r2u2/py.typed
 

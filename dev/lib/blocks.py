@@ -6,7 +6,7 @@ The word after the three backticks says what a block is:
             and a line `...` is any lines
   c2po      a specification, which has to compile
   csv       a trace, which the specification before it takes
-  c, cpp    a listing, which has to compile over include/ and dev/stubs/
+  c, cpp    a listing, which has to compile over embed/include/ and dev/stubs/
   python    a listing, which has to parse
   sh        a script, which has to parse; commands that a test can run belong into console
   rattle    lines of a crate
@@ -179,7 +179,7 @@ def run_tool(words: List[str], text: str = "", cwd: Optional[Path] = None) -> It
 def compile_listing(block: Block, place: Place) -> Iterator[str]:
     """Compiles a listing in C or C++; statements without a function are put into one."""
     language, standard = ("c", "-std=c11") if block.kind == "c" else ("c++", "-std=c++17")
-    folders = [f"-I{place.root / name}" for name in ("include", "dev/stubs")]
+    folders = [f"-I{place.root / name}" for name in ("embed/include", "dev/stubs")]
     text = block.text
     if not re.search(r"^(?:[A-Za-z_].*\)|#include.*|.*class .*|.*template.*)(?:\s*\{.*)?$", text, re.M) or block.marks.get("in") == "function":
         text = "#include <string.h>\n#include \"page.h\"\nvoid page(void);\nvoid page(void) {\n" + text + "\n}\n"

@@ -25,7 +25,7 @@ class Blocks(unittest.TestCase):
         self.folder = tempfile.TemporaryDirectory()
         self.addCleanup(self.folder.cleanup)
         self.root = Path(self.folder.name)
-        for name in ("tools", "include", "embed", "dev"):
+        for name in ("tools", "embed", "dev"):
             (self.root / name).mkdir()
         self.page = self.root / "page.md"
 

@@ -11,7 +11,7 @@ import unittest
 from pathlib import Path
 
 ROOT = Path(__file__).resolve().parent.parent.parent
-PARTS = [".ci", "bench", "completions", "crates", "dev", "docs", "editors", "embed", "examples", "include", "tools"]
+PARTS = [".ci", "bench", "completions", "crates", "dev", "docs", "editors", "embed", "examples", "tools"]
 
 # A file, what is in it, what is put in its place, and what is to be printed then.
 CHANGES = [

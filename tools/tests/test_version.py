@@ -10,7 +10,7 @@ class Version(Case):
         version = (ROOT / "VERSION").read_text(encoding="utf-8").strip()
         large, middle, small = map(int, version.split("."))
         number = 10_000 * large + 100 * middle + small
-        header = (ROOT / "include/r2u2.h").read_text(encoding="utf-8")
+        header = (ROOT / "embed/include/r2u2.h").read_text(encoding="utf-8")
         library = (ROOT / "crates/r2u2_c/src/version.rt").read_text(encoding="utf-8")
         self.assertIn(f"#define R2U2_VERSION {number}u\n", header)
         self.assertIn(f'#define R2U2_VERSION_TEXT "{version}"\n', header)

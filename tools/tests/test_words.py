@@ -8,7 +8,7 @@ from unittest import mock
 
 from support import ROOT
 
-HEADER = (ROOT / "include/r2u2.h").read_text(encoding="utf-8")
+HEADER = (ROOT / "embed/include/r2u2.h").read_text(encoding="utf-8")
 RUST = (ROOT / "embed/rust/src/lib.rs").read_text(encoding="utf-8")
 
 
@@ -58,7 +58,7 @@ class Words(unittest.TestCase):
 
     def test_no_other_list_of_words(self):
         """C and C++ take the texts of the header."""
-        for folder in ("include", "embed", "examples/embed"):
+        for folder in ("embed", "examples/embed"):
             for path in sorted((ROOT / folder).rglob("*.[ch]*")):
                 if path.name != "r2u2.h":
                     self.assertNotIn('"inactive"', path.read_text(encoding="utf-8"), path)
