@@ -23,7 +23,7 @@ use Rattle.mltl_tools.specs.Sentence.{ReportsText, lines_at}
 use Rattle.api_tests.specs.declared.joined.Ended.{Ended}
 use Rattle.api_tests.specs.declared.joined.Ended.TheVariants.{Unmade, Apart, Together}
 
--- the status of c2po, which is success if r2u2 ran
+-- the status of c2po: its own if the runs ended with it, and else success
 abbrev pub made_as : Result Ended AllocError → Status
 made_as (Ok (Unmade status)) = status
 made_as result = Done

@@ -23,7 +23,7 @@ use Rattle.c2po_cli.specs.Upgrading.{IsUpgraded}
 use Rattle.obs_binary.specs.Faults.{opened}
 use Rattle.c2po_cli.specs.Run.{seen, is_tried, HasFaultlessText, MakesFile, MakeOutcome, WritesAttached}
 
--- the status refuses a file, a header, a limit, or a text that is to be written, or is out of memory
+-- the status refuses a file, a header, a program past a limit, or a text that is to be written, or is out of memory
 abbrev pub IsRefusal : status.Status → Type 0
 IsRefusal (status.TheVariants.Refused line refusal) = ⊤
 IsRefusal (status.TheVariants.BadProgram fault) = ⊤
@@ -47,7 +47,7 @@ pub record ReadsLine (form : Form) (text : List ℕ) (found : Result (List ℕ) 
   pub makes : (name : List ℕ) → made_of_text form (Some name) text (lines_of ended bytes) ≡ found
   pub image : IfOk found (WritesImage form text (Some (first_line (lines_of ended bytes))))
 
--- reads of the header file returned no bytes of a product
+-- the header file was read, and no bytes were made of it
 pub record ReadsNone (log : List Event) : Type 0 where
   pub bytes : List ℕ
   pub ended : Bool

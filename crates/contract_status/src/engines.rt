@@ -159,7 +159,7 @@ impl Engines<'_> {
     }
 
     /// Returns the first output from `first` on with a known word at its next time, and the longest
-    /// stretch of it. Its steps are the outputs that it looks at.
+    /// stretch of it. It counts a step for each output that it looks at.
     #[inline(always)]
     fn first_open<L: Ledger>(
         &self,

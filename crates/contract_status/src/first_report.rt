@@ -16,7 +16,7 @@ use std::sync::ledger::Ledger;
 /// Returns the first report that the outputs' next times leave open, and moves its output's next
 /// time past it. If none is open, returns `None`, and no next time changes. The search goes on at
 /// the cursor. After `None` the cursor is past all outputs, and has no stretch, since the search
-/// would have returned it. Its steps are itself and the outputs that it looks at.
+/// would have returned it. It counts a step for itself and for each output that it looks at.
 #[inline(always)]
 pub fn tell_first<L: Ledger>(
     style: Style,

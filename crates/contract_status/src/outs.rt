@@ -92,8 +92,8 @@ impl Outs {
     }
 
     /// Returns the first report that is open after `n` rows, in a style. The search goes on at the
-    /// cursor of these rows. Its steps are itself and the outputs that it looks at. The next search
-    /// looks at none of them again but the last.
+    /// cursor of these rows. It counts a step for itself and for each output that it looks at. The
+    /// next search looks at the last of them again, and at none before it.
     #[inline(always)]
     pub fn next_at<L: Ledger>(
         &mut self,
@@ -140,8 +140,8 @@ impl Outs {
     }
 
     /// Returns true if no report is open after `n` rows, in either style. It looks at no output
-    /// before the cursor of these rows, so at none if `next_at` returned `None`. Its steps are the
-    /// outputs that it looks at.
+    /// before the cursor of these rows, so at none if `next_at` returned `None`. It counts a step
+    /// for each output that it looks at.
     #[inline(always)]
     pub fn drained_at<L: Ledger>(
         &self,

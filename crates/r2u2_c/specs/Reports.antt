@@ -20,6 +20,6 @@ word_number Verified = 4
 abbrev pub shown : Report → Told
 shown report = record { time = report.time; output = report.out; word = word_number report.word }
 
--- the style that a number asks for: 0 for each time, and any other for runs
+-- the style for a number: 0 for each time, and any other for runs
 abbrev pub style_of : ℕ → Style
 style_of n = if n == 0 then Each else Runs

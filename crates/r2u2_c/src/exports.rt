@@ -73,7 +73,7 @@ pub extern "C" fn r2u2_open_under(
     }
 }
 
-/// Writes the fault of an opening, and returns its code.
+/// Returns the code of a fault of an opening, and writes the fault, unless it is out of memory.
 pub(crate) fn refuse(why: OpeningFault, fault: &mut Fault) -> u32
     ensures memory { why ≡ Memory → (result ≡ NO_MEMORY) × (fault.new ≡ fault.old) }
     ensures refused { why ≢ Memory → (result ≡ REFUSED) × (fault.new ≡ opening_fault why) }
@@ -87,7 +87,8 @@ pub(crate) fn refuse(why: OpeningFault, fault: &mut Fault) -> u32
     }
 }
 
-/// Takes the next row, with one number for each column, or returns the code of the fault.
+/// Takes the next row, with one number for each column. If the open monitor doesn't take it, writes
+/// the cause, and returns its code.
 #[unsafe(no_mangle)]
 pub extern "C" fn r2u2_row(it: &mut R2u2, free: FreeOnly, fields: &[i64], why: &mut RowWhy) -> u32
     ensures takes { result ≡ DONE → Takes fields.now it.old.handle.value it.new.handle.value }

@@ -288,8 +288,8 @@ impl Monitor {
     }
 
     /// Writes as many of the next reports of the last row, in a style, as there is room for to the
-    /// front of a slice, and returns their number. If there was room for more, none is left. Its
-    /// steps are the outputs that it looks at, and two for each report.
+    /// front of a slice, and returns their number. If there was room for more, none is left. It
+    /// counts a step for each output that it looks at, and two for each report.
     pub fn next_many<L: Ledger>(
         &mut self,
         style: Style,
@@ -354,8 +354,8 @@ impl Monitor {
         self.drained_in(&mut Steps::<L>::start(blank))
     }
 
-    /// Returns true if all reports were returned. Its steps are the outputs that it looks at. The
-    /// monitor represents some rows at any time.
+    /// Returns true if all reports were returned. It counts a step for each output that it looks
+    /// at. The monitor represents some rows at any time.
     #[inline(always)]
     fn drained_in<L: Ledger>(&self, steps: &mut Steps<L>) -> bool
         ensures drained { IsTrue result ↔ IsDrained self.now }

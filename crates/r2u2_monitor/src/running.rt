@@ -120,8 +120,8 @@ impl Running {
     }
 
     /// Returns the first report that is open, in a style. If none is open, returns `None`, and
-    /// nothing changes. The search goes on at the cursor. Its steps are itself and the outputs that
-    /// it looks at.
+    /// nothing changes. The search goes on at the cursor. It counts a step for itself and for each
+    /// output that it looks at.
     #[inline(always)]
     pub fn next<L: Ledger>(
         &mut self,
@@ -176,8 +176,8 @@ impl Running {
         reports.len()
     }
 
-    /// Returns true if no report is open, in either style. The search goes on at the cursor. Its
-    /// steps are the outputs that it looks at.
+    /// Returns true if no report is open, in either style. The search goes on at the cursor. It
+    /// counts a step for each output that it looks at.
     #[inline(always)]
     pub fn is_drained<L: Ledger>(&self, cursor: Cursor, steps: &mut Steps<L>) -> bool
         requires some { (rows : List Row) × HasTaken self.now rows }

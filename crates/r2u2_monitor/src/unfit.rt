@@ -15,8 +15,8 @@ use trace_feed::{Reading, Readings};
 /// Returns the first column from which the numbers aren't a row of the program, or `None` if they
 /// are a row.
 ///
-/// A row that fits is found with the instructions alone, which read few of many columns. The steps
-/// are the instructions and the columns that it looks at.
+/// A row that fits is found with the instructions alone, which read few of many columns. It counts
+/// a step for each instruction and each column that it looks at.
 pub(crate) fn unfit_column<L: Ledger>(
     checked: &Checked,
     readings: &Readings,
