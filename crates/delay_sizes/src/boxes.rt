@@ -7,7 +7,7 @@ use mltl_base::limits::MAX_BOUND;
 use mltl_base::{Interval, List, PtOp};
 use std::alloc::{AllocError, Global};
 
-/// The most boxes that a Since with this interval keeps.
+/// Returns the most boxes that a Since with this interval keeps.
 pub fn box_count(interval: Interval) -> u32
     requires ordered { interval.lo ≤ interval.hi }
     requires bounded { interval.hi ≤ MAX_BOUND }
@@ -16,14 +16,14 @@ pub fn box_count(interval: Interval) -> u32
     interval.hi / (interval.hi - interval.lo + 2) + 1
 }
 
-/// So many boxes are enough: after each row the boxes of a Since with `[a,b]` end at times at least `b - a + 2`
-/// apart, and within `b + 1` times.
+/// States that these boxes are enough: after each row the boxes of a Since with `[a,b]` end at
+/// times at least `b - a + 2` apart, and within `b + 1` times.
 pub fn few_boxes()
     ensures { (i : Interval) (low : ℕ) (ends : List ℕ) → i.lo ≤ i.hi
         → AreApart (i.hi - i.lo + 2) low (low + i.hi) ends → length ends ≤ boxes i }
 {}
 
-/// The most boxes of each past-time instruction, in order: those of a Since, and 0 of another.
+/// Returns the most boxes of each past-time instruction, in order: 0 unless it is a Since.
 pub fn box_counts(alloc: Global, pt: &List<PtOp>) -> Result<List<u32>, AllocError>
     requires { All (HasPastBounds MAX_BOUND) pt.now }
     ensures counted { IfOk result (λ sizes. sizes ≡ counts pt.now) }

@@ -1,4 +1,4 @@
-//! What the delays of instructions say of formulas.
+//! Laws on the delays of instructions and formulas.
 
 ghost use Rattle.std.specs.Prelude.{◌≡◌, List, map};
 ghost use Rattle.mltl_base.specs.Atoms.{Atom};
@@ -8,7 +8,8 @@ ghost use Rattle.mltl_base.specs.Queues.{best_delays, worst_delays};
 
 use mltl_base::FtOp;
 
-/// The delays of instructions are those of the formulas that they unfold to, whatever atoms they load.
+/// The delays of instructions are the delays of the formulas that they unfold to, whatever atoms
+/// they load.
 pub fn delays_of_formulas()
     ensures best { (loaded : List Atom) (ops : List FtOp) →
         best_delays ops ≡ map bpd (formulas loaded ops) }

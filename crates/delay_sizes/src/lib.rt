@@ -1,5 +1,5 @@
-//! The sizes of observer programs: how late a verdict of a future-time instruction may come, how many verdicts its
-//! queue holds, and how many stretches of times a past-time instruction keeps.
+//! The sizes of observer programs: the delays of future-time instructions, the verdicts that their
+//! queues hold, and the stretches of times that past-time instructions keep.
 //!
 //! Propagation delays and the lengths of shared queues follow Kempa and others (2020), where an instruction also
 //! counts among its own siblings, which makes room for a burst that one row releases.

@@ -9,10 +9,10 @@ use mltl_base::{FtOp, List};
 use std::alloc::{AllocFailed, Global};
 use thiserror::Error;
 
-/// Why instructions have no delays.
+/// The reason why instructions have no delays.
 #[derive(Clone, Copy, Debug, Error)]
 pub enum DelayFault {
-    /// The first instruction whose worst-case delay is above the limit.
+    /// This is the first instruction whose worst-case delay is above the limit.
     #[error("the delay of instruction {0} is too large")]
     TooLate(u32),
     #[error("out of memory")]
@@ -29,7 +29,7 @@ impl From<AllocFailed<u32>> for DelayFault {
     }
 }
 
-/// The delays of future-time instructions, or the first of them that is too late.
+/// Returns the delays of future-time instructions, or the first that is too late.
 pub fn delays(alloc: Global, ft: &List<FtOp>) -> Result<Delays, DelayFault>
     requires few { length ft.now < 2 ^ 32 }
     requires in_order { AreInOrder ft.now }
@@ -54,7 +54,7 @@ pub fn delays(alloc: Global, ft: &List<FtOp>) -> Result<Delays, DelayFault>
     Ok(Delays { best, worst })
 }
 
-/// The best-case delay of an instruction, from those of the instructions before it.
+/// Returns the best-case delay of an instruction, from the delays of the instructions before it.
 fn best_delay(op: &FtOp, bests: &[u32]) -> u32
     requires after { IsAfterOperands (length bests.now) op.now }
     requires bounded { HasBounds MAX_BOUND op.now }
@@ -69,7 +69,7 @@ fn best_delay(op: &FtOp, bests: &[u32]) -> u32
     }
 }
 
-/// The worst-case delay of an instruction, from those of the instructions before it.
+/// Returns the worst-case delay of an instruction, from the delays of the instructions before it.
 fn worst_delay(op: &FtOp, worsts: &[u32]) -> u32
     requires after { IsAfterOperands (length worsts.now) op.now }
     requires bounded { HasBounds MAX_BOUND op.now }

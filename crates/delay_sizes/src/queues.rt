@@ -11,10 +11,10 @@ use mltl_base::{Engine, FtOp, Graph, List, Out, Sizes};
 use std::alloc::{AllocError, Global};
 use thiserror::Error;
 
-/// Why a program has no sizes.
+/// The reason why a program has no sizes.
 #[derive(Clone, Copy, Debug, Error)]
 pub enum SizeFault {
-    /// All slots and boxes together are more than the limit.
+    /// All slots and boxes together are above the limit.
     #[error("too many queue slots and boxes")]
     TooManySlots,
     #[error("out of memory")]
@@ -31,7 +31,7 @@ impl From<AllocError> for SizeFault {
     }
 }
 
-/// The length of each queue and the most boxes of each Since.
+/// Returns the length of each queue and the most boxes of each Since.
 pub fn queue_sizes(alloc: Global, graph: &Graph, delays: &Delays) -> Result<Sizes, SizeFault>
     requires graph { IsSizable graph.now }
     requires delays { AreDelaysOf graph.now.ft delays.now }
@@ -49,7 +49,7 @@ pub fn queue_sizes(alloc: Global, graph: &Graph, delays: &Delays) -> Result<Size
     Ok(sizes)
 }
 
-/// The length of the queue of each future-time instruction, in order.
+/// Returns the length of the queue of each future-time instruction, in order.
 pub fn queue_lengths(
     alloc: Global,
     ft: &List<FtOp>,
@@ -67,7 +67,7 @@ pub fn queue_lengths(
     lengths_of(alloc, widths.as_slice(), delays.best.as_slice())
 }
 
-/// The slots that reach from the best-case delay of each instruction to its width, both counted.
+/// Returns the slots from the best-case delay of each instruction to its width, both included.
 fn lengths_of(alloc: Global, widths: &[u32], best: &[u32]) -> Result<List<u32>, AllocError>
     requires same { length widths.now ≡ length best.now }
     requires covers { (g : ℕ) → g < length best.now
@@ -85,7 +85,8 @@ fn lengths_of(alloc: Global, widths: &[u32], best: &[u32]) -> Result<List<u32>, 
     Ok(sizes)
 }
 
-/// The greatest worst-case delay among each instruction and all operands of all its readers.
+/// Returns the greatest worst-case delay among each instruction and all operands of all its
+/// readers.
 fn widths_of(
     alloc: Global,
     worst: &[u32],
@@ -191,7 +192,7 @@ fn widen(widths: &mut [u32], worst: &[u32], left: u32, right: u32)
     widths[right as usize] = widths[right as usize].max(latest);
 }
 
-/// The slots of all queues and all boxes together.
+/// Returns the number of slots of all queues and of all boxes.
 pub fn slot_count(sizes: &Sizes) -> u64
     requires { sum sizes.now.ft + sum sizes.now.pt < 2 ^ 64 }
     ensures { result ≡ sum sizes.now.ft + sum sizes.now.pt }
@@ -199,7 +200,7 @@ pub fn slot_count(sizes: &Sizes) -> u64
     total(sizes.ft.as_slice()) + total(sizes.pt.as_slice())
 }
 
-/// The sum of sizes.
+/// Returns the sum of sizes.
 pub fn total(sizes: &[u32]) -> u64
     requires { sum sizes.now < 2 ^ 64 }
     ensures { result ≡ sum sizes.now }
