@@ -1,5 +1,5 @@
--- What a ring and its slots represent: a frontier, a low time, and a verdict for each time from the low time to the
--- frontier - 1.
+-- The values that a ring and its slots represent: a frontier, a low time, and a verdict for each time from the low time to
+-- the frontier - 1.
 use Rattle.std.specs.Prelude.{◌≡◌, ◌≢◌, ℕ, ◌+◌, ◌-◌, ◌<◌, ◌≤◌, ◌⊎◌, Bool, false, List, [], ◌∷◌, ◌++◌, length}
 use Rattle.std.specs.Prelude.{max, slice_index_or, take, drop, if◌then◌else◌, nat_le, nat_lt, ⊤}
 use Rattle.scq_ring.specs.declared.runs.Ring.{Ring}
@@ -7,7 +7,7 @@ use Rattle.scq_ring.specs.declared.runs.Slot.{Slot}
 use Rattle.scq_ring.specs.declared.runs.Seen.{Seen}
 use Rattle.scq_ring.specs.declared.runs.Seen.TheVariants.{Run, Nothing}
 
--- the n members from index k on, going on at the front past the end
+-- the n members from index k on, continued at the front past the end
 abbrev pub window : {X : Type 0} → ℕ → ℕ → List X → List X
 window k n xs = take n (drop k xs ++ take k xs)
 
@@ -15,12 +15,12 @@ window k n xs = take n (drop k xs ++ take k xs)
 abbrev pub ring_index_of : ℕ → ℕ → ℕ → ℕ
 ring_index_of oldest k n = if nat_lt k (n - oldest) then oldest + k else k - (n - oldest)
 
--- the verdict at t is that of the first run that reaches up to t
+-- the verdict at t, from the first run that reaches up to t
 abbrev pub holds_in : List Slot → ℕ → Bool
 holds_in [] t = false
 holds_in (run ∷ runs) t = if nat_le t run.upto then run.value else holds_in runs t
 
--- past the end of a list of runs
+-- the slot past the end of a list of runs
 abbrev pub no_slot : Slot
 no_slot = record { upto = 0; value = false }
 
@@ -29,12 +29,12 @@ abbrev pub Spans : ℕ → List Slot → ℕ → Type 0
 Spans low [] end = low ≡ end
 Spans low (run ∷ runs) end = (low ≤ run.upto) × Spans (run.upto + 1) runs end
 
--- the value of the first of these runs, or of the newest one where there are none before it
+-- the value of the first of these runs, or of the newest one if there are none before it
 abbrev pub first_value : List Slot → Bool → Bool
 first_value [] newest = newest
 first_value (run ∷ runs) newest = run.value
 
--- each of these runs has another value than the run after it; after the last one comes the newest
+-- each of these runs has another value than the run after it; the newest run comes after the last one
 abbrev pub Alternate : List Slot → Bool → Type 0
 Alternate [] newest = ⊤
 Alternate (run ∷ runs) newest = (run.value ≢ first_value runs newest) × Alternate runs newest
@@ -43,7 +43,7 @@ Alternate (run ∷ runs) newest = (run.value ≢ first_value runs newest) × Alt
 abbrev pub runs_of : Ring → List Slot → List Slot
 runs_of ring slots = window ring.oldest ring.used slots
 
--- the last time of run k, of those that are kept
+-- the last time of run k of the kept runs
 abbrev pub upto_at : List Slot → ℕ → ℕ
 upto_at runs k = (slice_index_or runs k no_slot).upto
 
@@ -55,11 +55,11 @@ frontier_of ring = ring.frontier
 unfoldable pub low_of : Ring → ℕ
 low_of ring = ring.low
 
--- the verdict at a time from the low time to the frontier - 1: that of the newest run from where this begins
+-- the verdict at a time from the low time to the frontier - 1: from the start of the newest run on, the newest verdict
 unfoldable pub verdict_at : Ring → List Slot → ℕ → Bool
 verdict_at ring slots t = if nat_le ring.since t then ring.value else holds_in (runs_of ring slots) t
 
--- the slots are those of the ring: they hold the runs before the newest one, which has some time after the first write
+-- the slots belong to the ring: they hold the runs before the newest one, which isn't empty after the first write
 pub record Belongs (ring : Ring) (slots : List Slot) : Type 0 where
   pub oldest_in : ring.oldest < length slots
   pub used_in : ring.used ≤ length slots
@@ -75,7 +75,7 @@ pub record KeepsNewest (old new : Ring) : Type 0 where
   pub since : new.since ≡ old.since
   pub value : new.value ≡ old.value
 
--- the slots hold all runs up to the frontier, the newest one too; where they were full, the oldest run was let go
+-- the slots hold all runs up to the frontier, also the newest one; if they were full, the oldest run was dropped
 pub record IsClosed (old : Ring) (old_slots : List Slot) (new : Ring) (new_slots : List Slot) : Type 0 where
   pub oldest_in : new.oldest < length new_slots
   pub used_in : new.used ≤ length new_slots
@@ -86,8 +86,8 @@ pub record IsClosed (old : Ring) (old_slots : List Slot) (new : Ring) (new_slots
   pub bounded : (new.low ≡ old.low) ⊎ (new.low + length old_slots ≤ old.frontier)
   pub kept : (t : ℕ) → new.low ≤ t → t < old.frontier → holds_in (runs_of new new_slots) t ≡ verdict_at old old_slots t
 
--- the ring has got the value at each time from its frontier up to this one; where the slots were full, the oldest run
--- was let go
+-- the ring has the value at each time from its old frontier up to this one; if the slots were full, the oldest run was
+-- dropped
 pub record IsTurned (old : Ring) (old_slots : List Slot) (upto : ℕ) (value : Bool) (new : Ring)
     (new_slots : List Slot) : Type 0 where
   pub belongs : Belongs new new_slots
@@ -97,42 +97,41 @@ pub record IsTurned (old : Ring) (old_slots : List Slot) (upto : ℕ) (value : B
   pub kept : (t : ℕ) → new.low ≤ t → t < old.frontier → verdict_at new new_slots t ≡ verdict_at old old_slots t
   pub written : (t : ℕ) → old.frontier ≤ t → t ≤ upto → verdict_at new new_slots t ≡ value
 
--- the run in the slots that holds a time is one of those from `first` to `last`: those before end earlier, and the last
--- one doesn't
+-- the run in the slots that holds a time is one from `first` to `last`: earlier runs end before it, and the last one doesn't
 pub record IsAround (ring : Ring) (slots : List Slot) (from first last : ℕ) : Type 0 where
   pub ordered : first ≤ last
   pub within : last < ring.used
   pub below : (k : ℕ) → k < first → upto_at (runs_of ring slots) k < from
   pub reached : from ≤ upto_at (runs_of ring slots) last
 
--- all times from `from` to `end` have the value, and the time after them, where it has a verdict, has another one
+-- all times from `from` to `end` have the value, and the time after them, if it has a verdict, has another one
 pub record IsLongestRun (frontier : ℕ) (verdict : ℕ → Bool) (from end : ℕ) (value : Bool) : Type 0 where
   pub upward : from ≤ end
   pub known : end < frontier
   pub alike : (t : ℕ) → from ≤ t → t ≤ end → verdict t ≡ value
   pub ends : end + 1 < frontier → verdict (end + 1) ≢ value
 
--- what a read from time `from` on shows: the longest run from there; nothing exactly at or past the frontier
+-- a read from time `from` on shows the longest run from there; nothing exactly at or past the frontier
 abbrev pub Shows : Ring → List Slot → ℕ → Seen → Type 0
 Shows ring slots from (Run end value) = IsLongestRun (frontier_of ring) (verdict_at ring slots) from end value
 Shows ring slots from Nothing = frontier_of ring ≤ from
 
--- how many of these runs end at or after a time
+-- the number of these runs that end at or after a time
 abbrev pub runs_to : ℕ → List Slot → ℕ
 runs_to from [] = 0
 runs_to from (run ∷ runs) = (if nat_le from run.upto then 1 else 0) + runs_to from runs
 
--- how many runs a ring holds that end at or after a time, the newest one among them
+-- the number of runs of a ring, with the newest one, that end at or after a time
 unfoldable pub runs_from : Ring → List Slot → ℕ → ℕ
 runs_from ring slots from = runs_to from (runs_of ring slots) + (if nat_lt from ring.frontier then 1 else 0)
 
--- a run that is shown is one of those from the read's time on, and isn't one of those after its end
+-- a run that is shown counts among the runs from the read's time on, but not among the runs after its end
 abbrev pub TakesRun : Ring → List Slot → ℕ → Seen → Type 0
 TakesRun ring slots from (Run end value) = runs_from ring slots (end + 1) + 1 ≤ runs_from ring slots from
 TakesRun ring slots from Nothing = ⊤
 
--- what a write of the value up to this time leaves: no verdict that is kept changes, and times are let go no further
--- than the slots ask
+-- after a write of the value up to this time no kept verdict changes, and times are dropped no further than the slots
+-- require
 pub record IsWritten (old : Ring) (old_slots : List Slot) (upto : ℕ) (value : Bool) (new : Ring)
     (new_slots : List Slot) : Type 0 where
   pub belongs : Belongs new new_slots

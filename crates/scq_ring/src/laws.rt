@@ -1,4 +1,4 @@
-//! How many runs a ring holds.
+//! Laws on the number of runs of a ring.
 //!
 //! Each law is the contract of a function with an empty body.
 
@@ -7,7 +7,8 @@ ghost use Rattle.scq_ring.specs.Runs.{Belongs, runs_from};
 ghost use Rattle.scq_ring.specs.declared.runs.Ring.{Ring};
 ghost use Rattle.scq_ring.specs.declared.runs.Slot.{Slot};
 
-/// A ring holds one run more than it has slots at most, and the later a time, the fewer of them end at or after it.
+/// A ring holds at most one run more than it has slots, and the later a time, the fewer runs end at
+/// or after it.
 #[tactic(auto, using(crate::proofs::RunLemmas::runs_from_few, crate::proofs::RunLemmas::runs_from_later))]
 pub fn runs_are_few()
     ensures few { (ring : Ring) (slots : List Slot) (from : ℕ) → Belongs ring slots

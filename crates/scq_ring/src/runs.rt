@@ -16,7 +16,7 @@ pub struct Slot {
 }
 
 impl Slot {
-    /// A slot that holds no verdict.
+    /// Returns a slot that holds no verdict.
     #[tactic(auto, unfolding(crate::specs::Runs::IsClear))]
     pub fn clear() -> Slot
         ensures clear { IsClear result }
@@ -44,12 +44,12 @@ pub struct Ring {
     value: bool,
 }
 
-/// What a read shows.
+/// The result of a read.
 #[derive(Clone, Copy, Debug, PartialEq, Eq)]
 pub enum Seen {
-    /// The last time of a run that begins where the read did, and its verdict.
+    /// The read is within a run: its last time and its verdict.
     Run(u64, bool),
-    /// No verdict yet.
+    /// The time has no verdict yet.
     Nothing,
 }
 
@@ -65,7 +65,7 @@ pub fn ring_index(oldest: usize, k: usize, len: usize) -> usize
 }
 
 impl Ring {
-    /// A ring without verdicts.
+    /// Creates a ring without verdicts.
     #[tactic(auto, unfolding(crate::specs::Runs::frontier_of, crate::specs::Runs::low_of))]
     pub fn make() -> Ring
         ensures frontier { frontier_of result ≡ 0 }
@@ -82,7 +82,7 @@ impl Ring {
         }
     }
 
-    /// The first time that has no verdict yet.
+    /// Returns the first time that has no verdict yet.
     #[tactic(auto, unfolding(crate::specs::Runs::frontier_of))]
     pub fn frontier(&self) -> u64
         ensures frontier { result ≡ frontier_of self.now }
@@ -90,7 +90,7 @@ impl Ring {
         self.frontier
     }
 
-    /// The first time whose verdict is kept.
+    /// Returns the first time whose verdict is kept.
     #[tactic(auto, unfolding(crate::specs::Runs::low_of))]
     pub fn low(&self) -> u64
         ensures low { result ≡ low_of self.now }
@@ -100,7 +100,8 @@ impl Ring {
 
     /// Gives all times from the frontier to `upto` the verdict `value`, and counts one step.
     ///
-    /// Where all slots hold runs and the value is another one than that of the last time, the oldest run is let go.
+    /// If all slots hold runs and the value differs from the last verdict, the oldest run is
+    /// dropped.
     pub fn write<L: Ledger>(
         &mut self,
         slots: &mut [Slot],
@@ -113,7 +114,7 @@ impl Ring {
         requires in_time { upto < TIME_END }
         ensures written { IsWritten self.old slots.old upto value self.new slots.new }
 
-        // A write of the last verdict lets nothing go.
+        // A write of the last verdict drops nothing.
         ensures stays { 0 < frontier_of self.old
             → value ≡ verdict_at self.old slots.old (frontier_of self.old - 1)
             → low_of self.new ≡ low_of self.old }
@@ -128,7 +129,8 @@ impl Ring {
         }
     }
 
-    /// The verdict at time `from`, and the last time up to which it stays the same; counts one step.
+    /// Returns the verdict at time `from`, and the last time up to which it stays the same. Counts
+    /// one step.
     pub fn read<L: Ledger>(&self, slots: &[Slot], from: u64, steps: &mut Steps<L>) -> Seen
         requires belongs { Belongs self.now slots.now }
         requires kept { low_of self.now ≤ from }
@@ -140,10 +142,11 @@ impl Ring {
         self.read_near(slots, from, &mut near, steps)
     }
 
-    /// Reads as `read` does, and looks first at run `near` and at the one after it. Leaves in `near` which run it was.
+    /// Reads as `read` does, but first looks at run `near` and the one after it. Sets `near` to the
+    /// run found.
     ///
-    /// A caller that reads on from where a run ended so finds the next run at once, however many there are. Any number may
-    /// be passed as `near`: where it is no run that helps, the runs are searched.
+    /// A caller that reads on from the end of a run finds the next run at once, however many there
+    /// are. Any number may be passed as `near`: if it is no run that helps, the runs are searched.
     #[inline(always)]
     #[tactic(auto, unfolding(crate::specs::Runs::frontier_of, crate::specs::Runs::low_of))]
     pub fn read_near<L: Ledger>(
@@ -170,7 +173,7 @@ impl Ring {
         Seen::Run(run.upto, run.value)
     }
 
-    /// Begins a run up to `upto` that has another verdict than the newest one.
+    /// Begins a run up to `upto` whose verdict differs from the newest one's.
     fn turn(&mut self, slots: &mut [Slot], upto: u64, value: bool)
         requires belongs { Belongs self.old slots.old }
         requires ahead { self.old.frontier ≤ upto }
@@ -184,7 +187,7 @@ impl Ring {
         self.frontier = upto + 1;
     }
 
-    /// Puts the newest run after those in the slots, if it has some time.
+    /// Moves the newest run to the slots, unless it is empty.
     fn close(&mut self, slots: &mut [Slot])
         requires belongs { Belongs self.old slots.old }
         requires in_time { self.old.frontier < TIME_END }
@@ -197,7 +200,7 @@ impl Ring {
         self.add(slots);
     }
 
-    /// Lets the oldest run go where all slots hold runs, so that one is free.
+    /// Drops the oldest run if all slots hold runs, so that one is free.
     fn make_room(&mut self, slots: &[Slot])
         requires belongs { Belongs self.old slots.now }
         ensures belongs { Belongs self.new slots.now }
@@ -214,7 +217,7 @@ impl Ring {
         }
     }
 
-    /// Puts the newest run, which has some time, into a slot that is free.
+    /// Writes the newest run, which isn't empty, to a free slot.
     fn add(&mut self, slots: &mut [Slot])
         requires belongs { Belongs self.old slots.old }
         requires free { self.old.used < length slots.old }
@@ -275,8 +278,8 @@ impl Ring {
         slots[ring_index(self.oldest, first, slots.len())]
     }
 
-    /// The first and the last of the runs in the slots that may hold time `from`: just run `near`, or the one after it,
-    /// where it is one of these.
+    /// Returns the first and the last of the runs in the slots that may hold time `from`: only run
+    /// `near`, or the one after it, if one of these holds it.
     fn around(&self, slots: &[Slot], from: u64, near: usize) -> (usize, usize)
         requires belongs { Belongs self.now slots.now }
         requires kept { low_of self.now ≤ from }
@@ -295,7 +298,7 @@ impl Ring {
         self.newest_around(slots, from)
     }
 
-    /// The last time of run `k` of those in the slots.
+    /// Returns the last time of run `k` in the slots.
     fn end_of(&self, slots: &[Slot], k: usize) -> u64
         requires belongs { Belongs self.now slots.now }
         requires exists { k < self.now.used }
@@ -304,8 +307,8 @@ impl Ring {
         slots[ring_index(self.oldest, k, slots.len())].upto
     }
 
-    /// The first and the last of the runs in the slots that may hold time `from`. Nearly every reader wants a new one, so it
-    /// looks from the last of them back, in steps that grow.
+    /// Returns the first and the last of the runs in the slots that may hold time `from`. Most
+    /// readers want a new run, so it looks back from the last one, in growing steps.
     fn newest_around(&self, slots: &[Slot], from: u64) -> (usize, usize)
         requires belongs { Belongs self.now slots.now }
         requires kept { low_of self.now ≤ from }
