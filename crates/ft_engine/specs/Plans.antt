@@ -1,4 +1,4 @@
--- How far the queues of instructions go after n rows (Kempa and others 2020), and which verdicts they keep.
+-- The frontiers of the queues of instructions after n rows (Kempa and others 2020), and the verdicts that they keep.
 use Rattle.std.specs.Prelude.{◌≡◌, ℕ, ◌+◌, ◌-◌, ◌≤◌, ◌<◌, ◌^◌, List, length, slice_index, min, max, ⊤}
 use Rattle.mltl_base.specs.declared.limits.TheConstants.{MAX_MISSION}
 use Rattle.mltl_base.specs.declared.operators.FtOp.{FtOp}
@@ -11,14 +11,14 @@ use Rattle.mltl_base.specs.Seats.{part}
 use Rattle.ft_engine.specs.declared.queue.Queue.{Queue}
 use Rattle.ft_engine.specs.Queues.{AreLaid, IsAhead, op_at, queue_at}
 
--- The delays of instructions: best and worst case, and the greatest worst one among an instruction and all operands of
--- its readers.
+-- The delays of instructions: best and worst case, and the greatest worst case among an instruction and all operands of its
+-- readers.
 pub record Plan : Type 0 where
   pub best : ℕ → ℕ
   pub worst : ℕ → ℕ
   pub widest : ℕ → ℕ
 
--- the delays of a program's instructions, and the widest one that their readers require
+-- the delays of a program's instructions, and the widest delay that their readers require
 abbrev pub plan_of : List FtOp → List Out → Plan
 plan_of ops outs = record {
   best = λ i. slice_index (best_delays ops) i;
@@ -26,7 +26,7 @@ plan_of ops outs = record {
   widest = λ i. widest_of (worst_delays ops) (readers ops outs) i;
 }
 
--- the delays are those of the operands, and an operand keeps its verdicts for the slowest operand of its reader
+-- the delays follow from the operands' delays, and an operand keeps its verdicts for the slowest operand of its reader
 abbrev pub IsSeated : Plan → ℕ → FtOp → Type 0
 IsSeated plan i True = (plan.best i ≡ 0) × (plan.worst i ≡ 0)
 IsSeated plan i (Load k) = (plan.best i ≡ 0) × (plan.worst i ≡ 0)
@@ -43,7 +43,7 @@ IsSeated plan i (Until l r window) =
     × (plan.worst i ≡ max (plan.worst l) (plan.worst r) + window.hi)
     × (plan.worst i ≤ plan.widest l + window.hi) × (plan.worst i ≤ plan.widest r + window.hi)
 
--- the delays of an instruction follow from those of its operands, the best is at most the worst, and its queue is wide
+-- the delays of an instruction follow from the delays of its operands, the best is at most the worst, and its queue is wide
 -- enough
 pub record IsPlanned (plan : Plan) (i : ℕ) (op : FtOp) : Type 0 where
   pub seated : IsSeated plan i op
@@ -55,7 +55,7 @@ pub record IsPlannedFor (plan : Plan) (ops : List FtOp) (size : ℕ → ℕ) : T
   pub planned : (i : ℕ) → i < length ops → IsPlanned plan i (op_at ops i)
   pub sizes : (i : ℕ) → i < length ops → size i ≡ plan.widest i - plan.best i + 1
 
--- where an until reads next, after n rows
+-- an until reads next at a time within the plan, after n rows
 abbrev pub ReadsNextAt : Plan → ℕ → FtOp → Queue → ℕ → Type 0
 ReadsNextAt plan i True queue n = ⊤
 ReadsNextAt plan i (Load k) queue n = ⊤
@@ -66,8 +66,8 @@ ReadsNextAt plan i (Until l r window) queue n =
     × (n + window.hi ≤ queue.reads_at + plan.worst i)
     × (queue.reads_at ≤ window.lo + (n - plan.best i))
 
--- After n rows the frontier lies from n less the worst to n less the best delay, and the low time is 0 or at most n - 1
--- less the widest one.
+-- After n rows the frontier lies from n less the worst to n less the best delay, and the low time is 0 or at most n - 1 less
+-- the widest delay.
 pub record Paced (plan : Plan) (i : ℕ) (queue : Queue) (slots : List Slot) (n : ℕ) : Type 0 where
   pub belongs : Belongs queue.ring slots
   pub long : length slots ≡ plan.widest i - plan.best i + 1
@@ -88,7 +88,7 @@ pub record ArePaced (plan : Plan) (queues : List Queue) (slab : List Slot) (n i 
   pub within : (j : ℕ) → j < i → (queue_at queues j).seat.start + (queue_at queues j).seat.size ≤ length slab
   pub each : (j : ℕ) → j < i → Paced plan j (queue_at queues j) (part slab (queue_at queues j).seat) n
 
--- what an instruction meets that takes row n, after those before it
+-- an instruction can take row n: it is on plan after n rows, and the instructions before it have taken row n
 pub record IsReadyForRow (plan : Plan) (n : ℕ) (op : FtOp) (before : List Queue) (earlier : List Slot) (queue : Queue)
     (own : List Slot) : Type 0 where
   pub planned : IsPlanned plan (length before) op
@@ -97,7 +97,7 @@ pub record IsReadyForRow (plan : Plan) (n : ℕ) (op : FtOp) (before : List Queu
   pub placed : ReadsNextAt plan (length before) op queue n
   pub few : n < MAX_MISSION
 
--- by some plan, an instruction is to take a row, after those before it
+-- by some plan, an instruction can take a row, and the instructions before it have taken it
 abbrev pub CanTakeRow : FtOp → List Queue → List Slot → Queue → List Slot → Type 0
 CanTakeRow op before earlier queue own = (plan : Plan) × (n : ℕ) × IsReadyForRow plan n op before earlier queue own
 

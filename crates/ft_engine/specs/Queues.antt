@@ -15,7 +15,7 @@ op_at ops i = slice_index_or ops i True
 abbrev pub no_queue : Queue
 no_queue = record { ring = no_ring; reads_at = 0; seat = no_seat }
 
--- queue i, one without slots past the last one
+-- queue i; past the last one, a queue without slots
 abbrev pub queue_at : List Queue → ℕ → Queue
 queue_at queues i = slice_index_or queues i no_queue
 
@@ -47,7 +47,7 @@ operand_size size (Not g) = size g
 operand_size size (And l r) = max (size l) (size r)
 operand_size size (Until l r window) = max (size l) (size r)
 
--- the most steps that an instruction takes in one row, where its own queue has this many slots
+-- the most steps that an instruction takes in one row, if its own queue has this many slots
 abbrev pub work_of : (ℕ → ℕ) → FtOp → ℕ → ℕ
 work_of size op own = 4 * (operand_size size op + own + 2)
 
@@ -56,7 +56,7 @@ abbrev pub work_before : List FtOp → (ℕ → ℕ) → ℕ → ℕ
 work_before ops size zero = 0
 work_before ops size (suc n) = work_before ops size n + work_of size (op_at ops n) (size n)
 
--- where an instruction reads its operands first
+-- the time at which an instruction reads its operands first
 abbrev pub first_read_of : FtOp → ℕ
 first_read_of True = 0
 first_read_of (Load k) = 0
@@ -64,7 +64,7 @@ first_read_of (Not g) = 0
 first_read_of (And l r) = 0
 first_read_of (Until l r window) = window.lo
 
--- where it reads them next: an until from its reading time, another one from its own frontier
+-- the time at which an instruction reads its operands next: an until at its reading time, another one at its own frontier
 abbrev pub reads_from : FtOp → Queue → ℕ
 reads_from True queue = frontier_of queue.ring
 reads_from (Load k) queue = frontier_of queue.ring
@@ -80,6 +80,6 @@ ReadsAhead (Not g) frontier reads_at = frontier g ≤ reads_at
 ReadsAhead (And l r) frontier reads_at = min (frontier l) (frontier r) ≤ reads_at
 ReadsAhead (Until l r window) frontier reads_at = min (frontier l) (frontier r) ≤ reads_at
 
--- so it is with a queue whose operands' queues are among these
+-- the queue reads its operands at or past the least frontier of their queues
 abbrev pub IsAhead : List Queue → FtOp → Queue → Type 0
 IsAhead queues op queue = ReadsAhead op (λ i. frontier_of (queue_at queues i).ring) (reads_from op queue)

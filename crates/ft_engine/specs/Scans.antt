@@ -1,4 +1,4 @@
--- What an until knows of its operands between two decisions.
+-- The known values of an until's operands between two decisions.
 use Rattle.std.specs.Prelude.{◌≡◌, ℕ, ◌+◌, ◌*◌, ◌-◌, ◌<◌, ◌≤◌, ◌⊎◌, max, true, false, List, Some, None, nat_lt}
 use Rattle.std.specs.Prelude.{if◌then◌else◌}
 use Rattle.mltl_base.specs.declared.limits.TheConstants.{TIME_END}
@@ -30,12 +30,12 @@ pub record CanScan (until : Until) (t reads_at : ℕ) : Type 0 where
   pub reach : t + until.window.lo ≤ reads_at
   pub in_time : reads_at ≤ TIME_END
 
--- what is seen of the right operand goes ahead of the reading time, no further than that operand does
+-- the right operand is seen ahead of the reading time, but no further than it goes
 pub record IsReadingOf (until : Until) (at : Reading) : Type 0 where
   pub order : at.reads_at ≤ at.seen
   pub in_time : at.seen ≤ TIME_END
 
--- an until whose queue ends at time t is to read its operands: what is seen doesn't reach past the window of that time
+-- an until whose queue ends at time t is to read its operands: the right one isn't seen past the window of that time
 pub record IsToRead (until : Until) (t : ℕ) (at : Reading) : Type 0 where
   pub can_scan : CanScan until t at.reads_at
   pub reading : IsReadingOf until at
@@ -45,8 +45,8 @@ pub record IsToRead (until : Until) (t : ℕ) (at : Reading) : Type 0 where
 abbrev pub HasEnough : Until → ℕ → Type 0
 HasEnough until t = first_end until.left until.right ≤ t + until.window.hi
 
--- The reading time at which an until reads next, with a queue up to time t: it moved on from its old one, to where an
--- operand ends at least, and not past the right one's end.
+-- The next reading time of an until, with a queue up to time t: it moved on from the old one, at least to the end of an
+-- operand, and not past the right one's end.
 pub record IsNextRead (until : Until) (t reads_at reads_at' : ℕ) : Type 0 where
   pub reach : t + until.window.lo ≤ reads_at'
   pub onward : reads_at ≤ reads_at'
@@ -59,14 +59,13 @@ abbrev pub row_steps : Until → ℕ → Ring → Ring → ℕ
 row_steps until reads_at old new =
     3 * (max reads_at (frontier_of until.right.ring.now) - reads_at) + (frontier_of new - frontier_of old) + 2
 
--- The most steps of a row by the runs that the operands hold from the reading time on: two for each run of the left
--- operand, four for each one of the right operand, and three.
+-- The most steps of a row by the runs of the operands from the reading time on: two for each run of the left operand, four
+-- for each run of the right one, and three.
 abbrev pub steps_by_runs : Until → ℕ → ℕ
 steps_by_runs until reads_at = 2 * operand_runs until.left reads_at + 4 * operand_runs until.right reads_at + 3
 
--- The most steps that are left of a row, with a queue up to time t: two for each run of the left operand from the
--- reading time on and four for each run of the right one that isn't seen, two where what is seen is ahead, one where
--- it covers the window of t, and two for the stop.
+-- The most steps left in a row, with a queue up to time t: two for each run of the left operand from the reading time on and
+-- four for each unseen run of the right one, two if `seen` is ahead, one if it covers the window of t, and two for the stop.
 abbrev pub steps_left : Until → ℕ → ℕ → ℕ → ℕ
 steps_left until t reads_at seen =
     2 * operand_runs until.left reads_at + 4 * operand_runs until.right seen
@@ -92,7 +91,7 @@ pub record MovesOn (at next : Reading) (end : ℕ) : Type 0 where
   pub order : next.reads_at ≤ next.seen
   pub in_time : next.seen ≤ max at.seen end
 
--- how far a turn leads
+-- a turn makes progress: it reads on, or decides times from t on, or stops because an operand has ended
 abbrev pub Leads : Until → ℕ → Reading → Turn → Type 0
 Leads until t at (Look next) =
     MovesOn at next (frontier_of until.right.ring.now)
@@ -103,26 +102,26 @@ Leads until t at Stop =
     (first_end until.left until.right ≤ at.reads_at)
     × (at.seen ≤ t + until.window.hi)
 
--- the steps that a turn may take: two where it stops, else as many as the reading moves on, what is seen counted twice
+-- the steps that a turn may take: two if it stops, else as many as the reading moves on, with `seen` counted twice
 abbrev pub reads_of : Reading → Turn → ℕ
 reads_of at (Look next) = (next.reads_at - at.reads_at) + 2 * (next.seen - at.seen)
 reads_of at (Decide upto value next) = (next.reads_at - at.reads_at) + 2 * (next.seen - at.seen)
 reads_of at Stop = 2
 
--- the most steps that are left after a turn, where a decision takes one to be written
+-- the most steps left after a turn; the write of a decision takes one
 abbrev pub steps_after : Until → ℕ → Turn → ℕ
 steps_after until t (Look next) = steps_left until t next.reads_at next.seen
 steps_after until t (Decide upto value next) = 1 + steps_left until (upto + 1) next.reads_at next.seen
 steps_after until t Stop = 0
 
--- what a turn finds out about the until at time t
+-- a turn's finding about the until at time t is right
 abbrev pub FindsOut : Interval → Known → Known → ℕ → ℕ → Turn → Type 0
 FindsOut i p q t reads_at (Look next) = Scan i p q t next.reads_at next.seen
 FindsOut i p q t reads_at (Decide upto value next) =
     ((x : ℕ) → t ≤ x → x ≤ upto → k_until i p q x ≡ Some value) × Scan i p q (upto + 1) next.reads_at next.seen
 FindsOut i p q t reads_at Stop = (k_until i p q t ≡ None) × ((p reads_at ≡ None) ⊎ (q reads_at ≡ None))
 
--- where it was scanned up to what is read, over what the operands show
+-- a turn's finding is right over the known values of the operands, if the until was scanned up to the reading
 abbrev pub TurnFinds : Until → ℕ → Reading → Turn → Type 0
 TurnFinds until t at turn =
     (p q : Known) → ShownBy until.left p → ShownBy until.right q → Scan until.window p q t at.reads_at at.seen

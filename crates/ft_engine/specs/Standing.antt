@@ -18,7 +18,7 @@ use Rattle.ft_engine.specs.Plans.{IsPaced, plan_of}
 use Rattle.ft_engine.specs.Queues.{ReadsAhead, op_at, queue_at, reads_from}
 use Rattle.ft_engine.specs.Tables.{HaveVerdicts, known_table}
 
--- how many instructions there are
+-- the number of instructions
 unfoldable pub instruction_count : Ft → ℕ
 instruction_count ft = length ft.queues
 
@@ -26,20 +26,20 @@ instruction_count ft = length ft.queues
 unfoldable pub frontier_at : Ft → ℕ → ℕ
 frontier_at ft i = frontier_of (queue_at ft.queues i).ring
 
--- the first time whose verdict it keeps
+-- the first time whose verdict instruction i keeps
 unfoldable pub lowest_at : Ft → ℕ → ℕ
 lowest_at ft i = low_of (queue_at ft.queues i).ring
 
--- its verdict at a time that it keeps
+-- the verdict of instruction i at a time that it keeps
 unfoldable pub kept_verdict : Ft → ℕ → ℕ → Bool
 kept_verdict ft i t =
     verdict_at (queue_at ft.queues i).ring (part ft.slab (queue_at ft.queues i).seat) t
 
--- its slots
+-- the number of slots of instruction i
 unfoldable pub slots_at : Ft → ℕ → ℕ
 slots_at ft i = (queue_at ft.queues i).seat.size
 
--- the slots of all instructions together
+-- the number of slots of all instructions
 unfoldable pub slot_total : Ft → ℕ
 slot_total ft = length ft.slab
 
@@ -48,11 +48,11 @@ abbrev pub ShowsFrom : Ft → ℕ → ℕ → Seen → Type 0
 ShowsFrom ft i from (Run end v) = IsLongestRun (frontier_at ft i) (kept_verdict ft i) from end v
 ShowsFrom ft i from Nothing = frontier_at ft i ≤ from
 
--- where an instruction of these reads its operands next
+-- the time at which instruction i of these reads its operands next
 unfoldable pub next_read : List FtOp → Ft → ℕ → ℕ
 next_read ops ft i = reads_from (op_at ops i) (queue_at ft.queues i)
 
--- the reading time lies at or past so early a time of each operand
+-- the reading time is at or past the early time of each operand
 abbrev pub ReadsFrom : FtOp → (ℕ → ℕ) → ℕ → Type 0
 ReadsFrom True early reads_at = ⊤
 ReadsFrom (Load k) early reads_at = ⊤
@@ -86,8 +86,8 @@ pub record FtHasTaken (program : Program) (rows : List Row) (ft : Ft) : Type 0 w
       → ReadsAhead (op_at program.ft i) (frontier_at ft) (next_read program.ft ft i)
   pub reads : (i : ℕ) → i < length program.ft
       → ReadsFrom (op_at program.ft i) (λ g. length rows - queue_width program g) (next_read program.ft ft i)
-  -- the low time is 0 or at most n - 1 less the width, and the slots are those of the program
+  -- the low time is 0 or at most n - 1 less the width, and the slots are as many as the program's sizes
   pub lows : (i : ℕ) → i < length program.ft → lowest_at ft i ≤ length rows - 1 - queue_width program i
   pub sizes : (i : ℕ) → i < length program.ft → slots_at ft i ≡ slice_index program.sizes.ft i
-  -- together they are as many, and none is left over
+  -- the slots of all instructions are as many as the program's, and none is left over
   pub total : slot_total ft ≡ sum program.sizes.ft

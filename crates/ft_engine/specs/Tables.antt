@@ -34,7 +34,7 @@ known_table rows loaded ops i = verdicts rows (plain (core_at (formulas loaded o
 abbrev pub truth_at : List Row → List Atom → Loads
 truth_at rows loaded t k = holds (slice_index_or loaded k (is_true 0)) (slice_index_or rows t [])
 
--- the strong Kleene value of an instruction by time after n rows, over what is known of its operands
+-- the strong Kleene value of an instruction by time after n rows, over the known values of its operands
 abbrev pub kleene_value : FtOp → Loads → ℕ → VerdictTable → Known
 kleene_value True truth n table t = if nat_lt t n then Some true else None
 kleene_value (Load k) truth n table t = if nat_lt t n then Some (truth t k) else None
@@ -46,7 +46,7 @@ kleene_value (Until l r window) truth n table t = k_until window (slice_get (tab
 pub record IsTable (ops : List FtOp) (truth : Loads) (n : ℕ) (table : VerdictTable) : Type 0 where
   pub each : (i : ℕ) → i < length ops → IsLongestKnown (kleene_value (op_at ops i) truth n table) n (table i)
 
--- what was known stays
+-- what the old table knows, the new one knows too
 pub record Extends (old new : VerdictTable) : Type 0 where
   pub each : (i t : ℕ) (v : Bool) → slice_get (old i) t ≡ Some v → slice_get (new i) t ≡ Some v
 
@@ -64,13 +64,13 @@ IsScanned (And l r) table queue = ⊤
 IsScanned (Until l r window) table queue =
     Scan window (slice_get (table l)) (slice_get (table r)) (frontier_of queue.ring) queue.reads_at queue.reads_at
 
--- the queue of the instruction after these has its verdicts, and an until has scanned its operands as far as it reads
+-- the queue of an instruction has its verdicts, and an until has scanned its operands as far as it reads
 pub record IsUpToDate (op : FtOp) (table : VerdictTable) (before : List Queue) (queue : Queue)
     (own : List Slot) : Type 0 where
   pub verdicts : HasVerdicts queue.ring own (table (length before))
   pub scanned : IsScanned op table queue
 
--- what an instruction meets that takes row n: its operands have the verdicts after that row, and it has those before
+-- an instruction can take row n: its operands have the verdicts after that row, and its queue has the verdicts before it
 pub record KnowsVerdicts (plan : Plan) (truth : Loads) (n : ℕ) (op : FtOp) (before : List Queue) (earlier : List Slot)
     (queue : Queue) (own : List Slot) (old new : VerdictTable) : Type 0 where
   pub ready : IsReadyForRow plan n op before earlier queue own
@@ -87,7 +87,7 @@ pub record HaveVerdicts (ops : List FtOp) (table : VerdictTable) (queues : List 
       → HasVerdicts (queue_at queues i).ring (part slab (queue_at queues i).seat) (table i)
   pub scanned : (i : ℕ) → i < length queues → IsScanned (op_at ops i) table (queue_at queues i)
 
--- what a row meets: the queues after n rows with the verdicts of the older table, and the table after one row more
+-- queues can take a row: after n rows they have the verdicts of the old table, and the new table is the table after the row
 pub record QueuesTake (plan : Plan) (truth : Loads) (n : ℕ) (ops : List FtOp) (queues : List Queue) (slab : List Slot)
     (old new : VerdictTable) : Type 0 where
   pub few : n < MAX_MISSION
@@ -96,10 +96,10 @@ pub record QueuesTake (plan : Plan) (truth : Loads) (n : ℕ) (ops : List FtOp) 
   pub extends : Extends old new
   pub verdicts : HaveVerdicts ops old queues slab
 
--- the value that an instruction loads is what the numbers of the row have for it
+-- the value that an instruction loads is its value among the numbers of the row
 abbrev pub Agrees : FtOp → (ℕ → Bool) → List ℤ → Type 0
 Agrees op truth numbers = (k : ℕ) (v : Bool) → op ≡ Load k → IsTruthIn numbers k v → truth k ≡ v
 
--- so it is with those that all instructions load
+-- the values that all instructions load are their values among the numbers of the row
 abbrev pub AgreeOnLoads : List FtOp → (ℕ → Bool) → List ℤ → Type 0
 AgreeOnLoads ops truth numbers = (i : ℕ) → i < length ops → Agrees (op_at ops i) truth numbers

@@ -1,4 +1,4 @@
-//! One row of a conjunction.
+//! One row for a conjunction.
 
 ghost use Rattle.std.specs.Prelude.{◌≡◌, ℕ, ◌+◌, ◌-◌, ◌*◌, ◌^◌, ◌<◌, ◌≤◌};
 ghost use Rattle.mltl_base.specs.declared.limits.TheConstants.{TIME_END};
@@ -11,7 +11,7 @@ use mltl_base::steps::Steps;
 use scq_ring::{Ring, Seen, Slot};
 use std::sync::ledger::Ledger;
 
-/// Decides the conjunction of the operands from the own frontier on, as far as it is known.
+/// Decides the conjunction of the operands from its own frontier on, as far as it is known.
 pub fn and_row<L: Ledger>(
     own: &mut Ring,
     own_slots: &mut [Slot],
@@ -39,7 +39,7 @@ pub fn and_row<L: Ledger>(
     }
 }
 
-/// The conjunction at time `from`, and a time up to which it stays the same.
+/// Returns the conjunction at time `from`, and a time up to which it stays the same.
 fn conjunction_from<L: Ledger>(
     from: u64,
     left: Operand,

@@ -15,7 +15,8 @@ use std::alloc::{AllocError, Global};
 use std::marker::Brand;
 use std::sync::ledger::{Blank, Ledger};
 
-/// The queues of a program's future-time instructions. Their rings share one slab of slots; no two have a slot in common.
+/// The queues of a program's future-time instructions. Their rings share one slab; each slot
+/// belongs to one ring.
 #[derive(Drop)]
 pub struct Ft {
     queues: Fixed<Queue>,
@@ -31,7 +32,7 @@ impl Ft {
     ghost use Rattle.ft_engine.specs.Running.{row_work};
     ghost use Rattle.ft_engine.specs.Standing.{ShowsFrom, FtHasTaken, frontier_at, instruction_count, kept_verdict, lowest_at};
 
-    /// The engine of a program, before the first row. Allocates all its memory.
+    /// Creates the engine of a program, before the first row. Allocates all its memory.
     pub fn make(alloc: Global, checked: &Checked) -> Result<Ft, AllocError>
         ensures stands { IfOk result (FtHasTaken checked.now []) }
     {
@@ -54,7 +55,7 @@ impl Ft {
         Ok(Ft { queues, slab })
     }
 
-    /// Resets the engine to its state before the first row. It neither allocates nor frees.
+    /// Resets the engine to its state before the first row. Neither allocates nor frees.
     pub fn reset(&mut self, checked: &Checked)
         requires stands { (rows : List Row) × FtHasTaken checked.now rows self.old }
         ensures stands { FtHasTaken checked.now [] self.new }
@@ -63,7 +64,7 @@ impl Ft {
         restart(program.ft.as_slice(), self.queues.as_mut_slice());
     }
 
-    /// Takes the row that the Booleanizer took last. It does not allocate.
+    /// Takes the row that the Booleanizer took last. Does not allocate.
     pub fn row<L: Ledger>(&mut self, checked: &Checked, bz: &Bz, steps: &mut Steps<L>)
         requires given { (row : Row) × (bz.now ≡ numbers_on row checked.now.bz) }
         requires stands { (rows : List Row) × FtHasTaken checked.now rows self.old
@@ -83,7 +84,7 @@ impl Ft {
         );
     }
 
-    /// The first time at which instruction `i` has no verdict yet.
+    /// Returns the first time at which instruction `i` has no verdict yet.
     #[tactic(auto, unfolding(crate::specs::Standing::instruction_count, crate::specs::Standing::frontier_at))]
     pub fn front(&self, i: u32) -> u64
         requires exists { i < instruction_count self.now }
@@ -92,7 +93,7 @@ impl Ft {
         self.queues.as_slice()[i as usize].ring.frontier()
     }
 
-    /// The first time whose verdict instruction `i` keeps.
+    /// Returns the first time whose verdict instruction `i` keeps.
     #[tactic(auto, unfolding(crate::specs::Standing::instruction_count, crate::specs::Standing::lowest_at))]
     pub fn low(&self, i: u32) -> u64
         requires exists { i < instruction_count self.now }
@@ -101,7 +102,7 @@ impl Ft {
         self.queues.as_slice()[i as usize].ring.low()
     }
 
-    /// The verdict of instruction `i` at time `t`: none exactly at or past its frontier.
+    /// Returns the verdict of instruction `i` at time `t`: `None` exactly at or past its frontier.
     pub fn verdict(&self, i: u32, t: u64) -> Option<bool>
         requires exists { i < instruction_count self.now }
         requires kept { lowest_at self.now i ≤ t }
@@ -114,8 +115,8 @@ impl Ft {
         }
     }
 
-    /// The verdict of instruction `i` at time `from`, and the last time up to which it stays the same; nothing exactly at
-    /// or past its frontier.
+    /// Returns the verdict of instruction `i` at time `from`, and the last time up to which it
+    /// stays the same; `Nothing` exactly at or past its frontier.
     pub fn run_from(&self, i: u32, from: u64) -> Seen
         requires exists { i < instruction_count self.now }
         requires kept { lowest_at self.now i ≤ from }
@@ -124,7 +125,7 @@ impl Ft {
         self.look::<Brand>(i, from, Blank::new(1))
     }
 
-    /// What `run_from` shows, with a separate count.
+    /// Reads as `run_from` does, with a separate count.
     fn look<L: Ledger>(&self, i: u32, from: u64, blank: Blank) -> Seen
         requires exists { i < instruction_count self.now }
         requires kept { lowest_at self.now i ≤ from }

@@ -1,4 +1,4 @@
-//! What the queues of future-time instructions have to do with the formulas that the instructions unfold to.
+//! Laws on the queues of future-time instructions and the formulas that the instructions unfold to.
 //!
 //! Each law is the contract of a function with an empty body.
 
@@ -12,7 +12,8 @@ ghost use Rattle.ft_engine.specs.Plans.{IsPlanned, IsPlannedFor, Plan, plan_of};
 ghost use Rattle.ft_engine.specs.Queues.{op_at};
 ghost use Rattle.ft_engine.specs.Tables.{Extends, IsTable, known_table, truth_at};
 
-/// The known verdicts of the formulas of a program's instructions are what queues of these instructions are to show.
+/// The known verdicts of the formulas of a program's instructions are the verdicts that the queues
+/// must show.
 #[tactic(auto, using(crate::proofs::Tabled::extends, crate::proofs::Tabled::nothing, crate::proofs::Tabled::truth_of_last))]
 pub fn known_verdicts_are_a_table()
     ensures table { (plan : Plan) (rows : List Row) (loaded : List Atom) (ops : List FtOp)

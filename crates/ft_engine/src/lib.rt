@@ -1,7 +1,8 @@
 //! The future-time engine: the verdicts of all future-time instructions of a program, row by row.
 //!
-//! Each instruction has a queue. An operator decides a run of times at once: the strong Kleene value of the operator
-//! over what is known of its operands, so its verdict comes as early as that value is known.
+//! Each instruction has a queue. An operator decides a run of times at once: its strong Kleene
+//! value over the known values of its operands, so its verdict comes as early as that value is
+//! known.
 #![tactic(auto)]
 
 pub mod bytes;

@@ -1,4 +1,4 @@
-//! One row of a negation.
+//! One row for a negation.
 
 ghost use Rattle.std.specs.Prelude.{◌≡◌, ℕ, ◌+◌, ◌-◌, ◌*◌, ◌^◌, ◌<◌, ◌≤◌, max};
 ghost use Rattle.mltl_base.specs.declared.limits.TheConstants.{TIME_END};
@@ -11,7 +11,7 @@ use mltl_base::steps::Steps;
 use scq_ring::{Ring, Seen, Slot};
 use std::sync::ledger::Ledger;
 
-/// Decides the negation of the operand from the own frontier on, as far as it is known.
+/// Decides the negation of the operand from its own frontier on, as far as it is known.
 pub fn not_row<L: Ledger>(
     own: &mut Ring,
     own_slots: &mut [Slot],

@@ -1,4 +1,4 @@
-//! The operand of an operator.
+//! Operands of operators.
 
 ghost use Rattle.std.specs.Prelude.{◌≡◌, ◌+◌, ◌≤◌};
 ghost use Rattle.scq_ring.specs.Runs.{Shows, TakesRun};
@@ -16,7 +16,8 @@ pub struct Operand<'a> {
 }
 
 impl<'a> Operand<'a> {
-    /// Reads the queue from time `from` on, and looks first at run `near`, as `Ring::read_near` does.
+    /// Reads the queue from time `from` on, and first looks at run `near`, as `Ring::read_near`
+    /// does.
     #[inline(always)]
     pub(crate) fn read_near<L: Ledger>(
         self,
@@ -33,7 +34,7 @@ impl<'a> Operand<'a> {
     }
 }
 
-/// Which runs of two operands were read last, by which the next ones are found.
+/// The runs of two operands that were read last, to find the next ones.
 #[derive(Clone, Copy)]
 pub struct Near {
     pub left: usize,
@@ -41,7 +42,7 @@ pub struct Near {
 }
 
 impl Near {
-    /// None was read yet.
+    /// No run was read yet.
     pub const NONE: Near = Near {
         left: usize::MAX,
         right: usize::MAX,

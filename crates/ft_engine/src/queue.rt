@@ -1,4 +1,4 @@
-//! The queue of an instruction, over its part of the slab.
+//! Queues of instructions, over their parts of the slab.
 
 ghost use Rattle.std.specs.Prelude.{◌≡◌, ◌+◌, ◌<◌, ◌≤◌, length};
 ghost use Rattle.mltl_base.specs.Seats.{part};
@@ -8,7 +8,8 @@ use crate::operand::Operand;
 use mltl_base::{FtOp, Seat};
 use scq_ring::{Ring, Slot};
 
-/// The queue of an instruction: its ring, where it reads next if it is an until, and its part of the slab.
+/// The queue of an instruction: its ring, its next reading time if it is an until, and its part of
+/// the slab.
 #[derive(Drop)]
 pub struct Queue {
     pub ring: Ring,
@@ -16,7 +17,7 @@ pub struct Queue {
     pub seat: Seat,
 }
 
-/// Where an instruction reads its operands first.
+/// Returns the time at which an instruction reads its operands first.
 pub fn first_read(op: FtOp) -> u64
     ensures { result ≡ first_read_of op }
 {
@@ -26,7 +27,7 @@ pub fn first_read(op: FtOp) -> u64
     }
 }
 
-/// The queue of instruction `i`, as an operand.
+/// Returns the queue of instruction `i`, as an operand.
 pub fn operand<'a>(queues: &'a [Queue], slab: &'a [Slot], i: u32) -> Operand<'a>
     requires exists { i < length queues.now }
     requires within { (queue_at queues.now i).seat.start + (queue_at queues.now i).seat.size

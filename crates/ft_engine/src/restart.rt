@@ -1,4 +1,4 @@
-//! Queues that begin again.
+//! Queues that restart.
 
 ghost use Rattle.std.specs.Prelude.{◌≡◌, ℕ, ◌<◌, length};
 ghost use Rattle.ft_engine.specs.Queues.{KeepsSeats, op_at, queue_at};

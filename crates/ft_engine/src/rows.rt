@@ -1,4 +1,4 @@
-//! One row of all future-time instructions.
+//! One row for all future-time instructions.
 
 ghost use Rattle.std.specs.Prelude.{◌≡◌, ℕ, ◌+◌, ◌^◌, ◌<◌, ◌≤◌, length};
 ghost use Rattle.mltl_base.specs.declared.limits.TheConstants.{MAX_MISSION};
@@ -17,7 +17,7 @@ use mltl_base::steps::Steps;
 use scq_ring::Slot;
 use std::sync::ledger::Ledger;
 
-/// Takes the row for one instruction, after those before it: they are `before`, with their slots in `earlier`.
+/// Takes the row for one instruction. The queues before it are `before`, their slots `earlier`.
 fn step<L: Ledger>(
     op: FtOp,
     bz: &Bz,
@@ -59,7 +59,8 @@ fn step<L: Ledger>(
     }
 }
 
-/// Takes the row for all instructions in order. Each has its own part of the slab, after those of its operands.
+/// Takes the row for all instructions in order. Each has its own part of the slab, after its
+/// operands' parts.
 pub fn row_of<L: Ledger>(
     ops: &[FtOp],
     bz: &Bz,

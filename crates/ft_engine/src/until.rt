@@ -1,4 +1,4 @@
-//! One row of an until.
+//! One row for an until.
 
 ghost use Rattle.std.specs.Prelude.{◌≡◌, ℕ, ◌+◌, ◌^◌, ◌<◌, ◌≤◌};
 ghost use Rattle.scq_ring.specs.Runs.{Belongs, frontier_of};
@@ -19,29 +19,31 @@ pub struct Until<'a> {
     pub window: Interval,
 }
 
-/// Where an until reads on: its reading time, before which the left operand is true, and a time before which the right one is
-/// seen to be false. The second goes ahead of the first within a row.
+/// The place where an until reads on: its reading time, before which the left operand is true, and
+/// a time before which the right one is seen to be false. The second goes ahead of the first within
+/// a row.
 #[derive(Clone, Copy)]
 struct Reading {
     reads_at: u64,
     seen: u64,
 }
 
-/// What comes next of an until, and where it reads on then.
+/// The next step of an until, and the place where it then reads on.
 #[derive(Clone, Copy)]
 enum Turn {
     /// Nothing is decided yet.
     Look(Reading),
     /// All times up to the number have this value.
     Decide(u64, bool, Reading),
-    /// No more is known.
+    /// Nothing more is known.
     Stop,
 }
 
-/// Decides an until of the operands from its frontier on, as far as it is known, and returns its reading time.
+/// Decides an until of the operands from its frontier on, as far as it is known. Returns its
+/// reading time.
 ///
-/// At the reading time it reads its operands next. From the lower end of its window up to there the left operand is
-/// true and the right one false, so nothing before the reading time is read again.
+/// At the reading time it reads its operands next. From the lower end of its window up to there the
+/// left operand is true and the right one false, so nothing before the reading time is read again.
 pub fn until_row<L: Ledger>(
     own: &mut Ring,
     own_slots: &mut [Slot],
@@ -75,7 +77,7 @@ pub fn until_row<L: Ledger>(
     }
 }
 
-/// What comes next where time `from` isn't decided.
+/// Returns the next step if time `from` isn't decided.
 fn next_turn<L: Ledger>(
     from: u64,
     at: Reading,
@@ -105,7 +107,7 @@ fn next_turn<L: Ledger>(
     }
 }
 
-/// What the right operand brings, where the left one is true up to where it was seen.
+/// Reads the right operand, if the left one is true up to the place where it was seen.
 fn read_right<L: Ledger>(
     from: u64,
     at: Reading,
@@ -142,7 +144,7 @@ fn read_right<L: Ledger>(
     }
 }
 
-/// What the left operand brings, where the right one is seen to be false ahead of the reading time.
+/// Reads the left operand, if the right one is seen to be false ahead of the reading time.
 fn read_left<L: Ledger>(
     from: u64,
     at: Reading,
@@ -176,7 +178,7 @@ fn read_left<L: Ledger>(
     }
 }
 
-/// What the right operand brings past the left one's end: it may still be false to the end of the window.
+/// Reads the right operand past the left one's end: it may still be false to the end of the window.
 fn read_ahead<L: Ledger>(
     from: u64,
     at: Reading,
