@@ -9,7 +9,7 @@ use Rattle.pt_boxes.specs.declared.boxes.Span.{Span}
 abbrev pub kept : Boxes → List Span → List Span
 kept boxes spans = window boxes.oldest boxes.used spans
 
--- the spans are those of the ring
+-- the spans belong to the ring
 pub record SpansOf (boxes : Boxes) (spans : List Span) : Type 0 where
   pub oldest_in : 0 < length spans → boxes.oldest < length spans
   pub used_in : boxes.used ≤ length spans

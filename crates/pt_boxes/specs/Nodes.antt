@@ -20,7 +20,7 @@ op_at ops i = slice_index_or ops i True
 abbrev pub no_node : Node
 no_node = record { boxes = no_boxes; truth = false; seat = no_seat }
 
--- node i, one without boxes past the last one
+-- node i; past the last one, a node without boxes
 abbrev pub node_at : List Node → ℕ → Node
 node_at nodes i = slice_index_or nodes i no_node
 
@@ -32,7 +32,7 @@ boxes_in slab node = kept node.boxes (part slab node.seat)
 abbrev pub SpansAreLaid : List Node → List Span → Type 0
 SpansAreLaid nodes slab = AreSeated no_node (λ node. node.seat) nodes (length slab) (length nodes)
 
--- the boxes of a Since lie apart after n rows; of another instruction nothing is asked
+-- the boxes of a Since lie apart after n rows; another instruction has no such condition
 abbrev pub HasBoxes : PtOp → ℕ → List Span → Type 0
 HasBoxes (Since l r i) n boxes = SpansLieApart i n 0 boxes
 HasBoxes op n boxes = ⊤
@@ -49,7 +49,7 @@ pub record KeepsRoom (op : PtOp) (n : ℕ) (boxes : Boxes) (own : List Span) : T
   pub belongs : SpansOf boxes own
   pub apart : HasBoxes op n (kept boxes own)
 
--- so have those of all instructions, each in its part of the slab
+-- after n rows, the boxes of all instructions have their room and lie apart, each in its part of the slab
 pub record AreKept (ops : List PtOp) (n : ℕ) (nodes : List Node) (slab : List Span) : Type 0 where
   pub same_length : length nodes ≡ length ops
   pub laid : SpansAreLaid nodes slab

@@ -15,15 +15,15 @@ use Rattle.pt_boxes.specs.declared.engine.Pt.{Pt}
 use Rattle.pt_boxes.specs.Nodes.{AreKept, boxes_in, node_at, op_at}
 use Rattle.pt_boxes.specs.Spans.{SpansLieApart, SpanSince}
 
--- how many instructions there are
+-- the number of instructions
 unfoldable pub instruction_count : Pt → ℕ
 instruction_count pt = length pt.nodes
 
--- how many rows were taken
+-- the number of rows taken
 unfoldable pub row_count : Pt → ℕ
 row_count pt = pt.rows
 
--- instruction i at the last row
+-- the truth of instruction i at the last row
 unfoldable pub now_at : Pt → ℕ → Bool
 now_at pt i = (node_at pt.nodes i).truth
 
@@ -31,11 +31,11 @@ now_at pt i = (node_at pt.nodes i).truth
 unfoldable pub boxes_at : Pt → ℕ → List Span
 boxes_at pt i = boxes_in pt.slab (node_at pt.nodes i)
 
--- how many boxes it has room for
+-- the number of boxes that instruction i has room for
 unfoldable pub room_at : Pt → ℕ → ℕ
 room_at pt i = (node_at pt.nodes i).seat.size
 
--- the room of all instructions together
+-- the number of boxes that all instructions have room for
 unfoldable pub room_total : Pt → ℕ
 room_total pt = length pt.slab
 
@@ -47,16 +47,16 @@ formula_meaning program rows i t = sat rows (plain (formula_at program past i)) 
 pub record PtHasTaken (program : Program) (rows : List Row) (pt : Pt) : Type 0 where
   pub seated : AreKept program.pt (length rows) pt.nodes pt.slab
   pub taken : row_count pt ≡ length rows
-  -- each instruction holds at the last row exactly where its formula does
+  -- each instruction holds at the last row exactly if its formula does
   pub count : instruction_count pt ≡ length program.pt
   pub now : (i : ℕ) → i < length program.pt → 0 < length rows
       → now_at pt i ≡ formula_meaning program rows i (length rows - 1)
   -- the room for boxes is fixed, and no instruction has more
   pub rooms : (i : ℕ) → i < length program.pt → room_at pt i ≡ boxes_of (op_at program.pt i)
   pub few : (i : ℕ) → i < length program.pt → length (boxes_at pt i) ≤ boxes_of (op_at program.pt i)
-  -- the room of all together is as much as the program states
+  -- all instructions have as much room as the program states
   pub total : room_total pt ≡ sum program.sizes.pt
-  -- the boxes of a Since are long enough, lie apart, end from n - 1 to n - 1 + hi, and say when it holds
+  -- the boxes of a Since are long enough, lie apart, end from n - 1 to n - 1 + hi, and cover the times at which it holds
   pub apart : (i l r : ℕ) (window : Interval) → i < length program.pt → op_at program.pt i ≡ Since l r window
       → SpansLieApart window (length rows) 0 (boxes_at pt i)
   pub told : (i l r : ℕ) (window : Interval) → i < length program.pt → op_at program.pt i ≡ Since l r window

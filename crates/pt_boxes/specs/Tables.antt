@@ -14,7 +14,7 @@ use Rattle.pt_boxes.specs.Spans.{SpanSince}
 abbrev pub TruthTable : Type 0
 TruthTable = ℕ → ℕ → Bool
 
--- the value of an instruction at a time, over those that are loaded and those of instructions
+-- the value of an instruction at a time, over the values of loaded Booleans and of instructions
 abbrev pub op_truth : PtOp → TruthTable → TruthTable → ℕ → Bool
 op_truth True loaded table t = true
 op_truth (Load k) loaded table t = loaded k t
@@ -26,7 +26,7 @@ op_truth (Since l r i) loaded table t = since_at i (table l) (table r) t
 abbrev pub IsTruthTable : List PtOp → TruthTable → ℕ → TruthTable → Type 0
 IsTruthTable ops loaded n table = (i t : ℕ) → i < length ops → t < n → table i t ≡ op_truth (op_at ops i) loaded table t
 
--- the boxes of a Since represent what the table says of it after n rows
+-- the boxes of a Since represent its values in the table after n rows
 abbrev pub BoxesRepresent : PtOp → TruthTable → ℕ → List Span → Type 0
 BoxesRepresent (Since l r i) table n boxes = SpanSince i (table l) (table r) n boxes
 BoxesRepresent op table n boxes = ⊤
@@ -36,13 +36,13 @@ pub record HasTable (ops : List PtOp) (table : TruthTable) (n : ℕ) (nodes : Li
   pub told : (i : ℕ) → i < length ops → BoxesRepresent (op_at ops i) table n (boxes_in slab (node_at nodes i))
   pub truths : (i : ℕ) → i < length ops → 0 < n → (node_at nodes i).truth ≡ table i (n - 1)
 
--- what instructions load is what the table of loaded truths has at time t
+-- the Booleans that instructions load are the values of the loaded table at time t
 abbrev pub LoadsMatchTable : List PtOp → List ℤ → TruthTable → ℕ → Type 0
 LoadsMatchTable ops numbers loaded t =
     (i k : ℕ) (v : Bool) → i < length ops → op_at ops i ≡ Load k → IsTruthIn numbers k v → v ≡ loaded k t
 
--- an instruction is due to take the row at time `now`: the nodes before it hold its values at that time, its boxes
--- represent the table before it, and the table's next value is that of the instruction
+-- an instruction can take the row at time `now`: the nodes before it hold their values at that time, its boxes represent the
+-- earlier rows, and the table's next value is the instruction's
 pub record IsTurn (op : PtOp) (numbers : List ℤ) (loaded table : TruthTable) (now : ℕ) (before : List Node)
     (boxes : List Span) : Type 0 where
   pub operands : (g : ℕ) → g < length before → (node_at before g).truth ≡ table g now
@@ -50,8 +50,7 @@ pub record IsTurn (op : PtOp) (numbers : List ℤ) (loaded table : TruthTable) (
   pub here : table (length before) now ≡ op_truth op loaded table now
   pub loads : (k : ℕ) (v : Bool) → op ≡ Load k → IsTruthIn numbers k v → v ≡ loaded k now
 
--- an instruction has taken the row at time `now`: its value is that of the table, which its boxes represent from then
--- on
+-- an instruction has taken the row at time `now`: its value is the table's, and its boxes represent this row too
 pub record TookTurn (op : PtOp) (table : TruthTable) (now : ℕ) (before : List Node) (value : Bool)
     (boxes : List Span) : Type 0 where
   pub told : BoxesRepresent op table (now + 1) boxes

@@ -1,10 +1,10 @@
-//! The boxes of one Since: a ring of spans.
+//! Boxes of one Since: a ring of spans.
 
 ghost use Rattle.std.specs.Prelude.{◌≡◌, ◌+◌, ◌≤◌, ◌<◌, [], ◌∷◌, ◌++◌, length, slice_get};
 
 use scq_ring::ring_index;
 
-/// A stretch of times, both ends counted.
+/// A stretch of times, both ends included.
 #[derive(Clone, Copy)]
 pub struct Span {
     pub first: u64,
@@ -24,14 +24,14 @@ impl Boxes {
     ghost use Rattle.pt_boxes.specs.Boxes.{SpansOf, kept, no_boxes};
     ghost use Rattle.pt_boxes.specs.Spans.{meets, prolonged, with_stretch, without_ended};
 
-    /// No boxes.
+    /// Returns an empty ring.
     pub fn none() -> Boxes
         ensures { result ≡ no_boxes }
     {
         Boxes { oldest: 0, used: 0 }
     }
 
-    /// The oldest box.
+    /// Returns the oldest box.
     pub fn oldest(&self, spans: &[Span]) -> Option<Span>
         requires belongs { SpansOf self.now spans.now }
         ensures oldest { result ≡ slice_get (kept self.now spans.now) 0 }
@@ -51,7 +51,7 @@ impl Boxes {
         self.used = 0;
     }
 
-    /// Drops the oldest box where it ended before this time.
+    /// Drops the oldest box if it ended before this time.
     pub fn let_ended_go(&mut self, spans: &[Span], now: u64)
         requires belongs { SpansOf self.old spans.now }
         ensures belongs { SpansOf self.new spans.now }
@@ -63,7 +63,7 @@ impl Boxes {
         }
     }
 
-    /// Adds a stretch, which is joined with the newest box where it meets or touches it.
+    /// Adds a stretch, joined with the newest box if it meets or touches it.
     pub fn add(&mut self, spans: &mut [Span], stretch: Span)
         requires belongs { SpansOf self.old spans.old }
         requires room { length (with_stretch stretch (kept self.old spans.old)) ≤ length spans.old }
@@ -77,7 +77,7 @@ impl Boxes {
         }
     }
 
-    /// Whether a stretch that starts at this time meets or touches the newest box.
+    /// Returns true if a stretch that starts at this time meets or touches the newest box.
     fn meets(&self, spans: &[Span], first: u64) -> bool
         requires belongs { SpansOf self.now spans.now }
         ensures meets { result ≡ meets first (kept self.now spans.now) }
@@ -98,7 +98,7 @@ impl Boxes {
         spans[newest].last = last;
     }
 
-    /// Adds a box after the newest one, where there is room.
+    /// Adds a box after the newest one, in a free span.
     fn push(&mut self, spans: &mut [Span], stretch: Span)
         requires belongs { SpansOf self.old spans.old }
         requires room { self.old.used < length spans.old }

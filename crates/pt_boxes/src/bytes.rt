@@ -1,4 +1,5 @@
-//! How many bytes the elements of an engine's lists take: compared with the types for x86-64, counted on aarch64.
+//! The sizes of the elements of an engine's lists: compared with the types for x86-64, counted on
+//! aarch64.
 
 use crate::boxes::Span;
 use crate::rows::Node;

@@ -26,7 +26,7 @@ impl Pt {
     ghost use Rattle.pt_boxes.specs.Running.{row_work};
     ghost use Rattle.pt_boxes.specs.Standing.{PtHasTaken, instruction_count, now_at};
 
-    /// The engine of a program, before the first row. Allocates all its memory.
+    /// Creates the engine of a program, before the first row. Allocates all its memory.
     pub fn make(alloc: Global, checked: &Checked) -> Result<Pt, AllocError>
         ensures stands { IfOk result (PtHasTaken checked.now []) }
     {
@@ -51,7 +51,7 @@ impl Pt {
         })
     }
 
-    /// Resets the engine to its state before the first row. It neither allocates nor frees.
+    /// Resets the engine to its state before the first row. Neither allocates nor frees.
     pub fn reset(&mut self, checked: &Checked)
         requires stands { (rows : List Row) × PtHasTaken checked.now rows self.old }
         ensures stands { PtHasTaken checked.now [] self.new }
@@ -60,7 +60,7 @@ impl Pt {
         self.rows = 0;
     }
 
-    /// Takes the row that the Booleanizer took last. It does not allocate.
+    /// Takes the row that the Booleanizer took last. Does not allocate.
     pub fn row<L: Ledger>(&mut self, checked: &Checked, bz: &Bz, steps: &mut Steps<L>)
         requires given { (row : Row) × (bz.now ≡ numbers_on row checked.now.bz) }
         requires stands { (rows : List Row) × PtHasTaken checked.now rows self.old
@@ -82,7 +82,7 @@ impl Pt {
         self.rows += 1;
     }
 
-    /// Whether instruction `i` holds at the last row.
+    /// Returns true if instruction `i` holds at the last row.
     #[tactic(auto, unfolding(crate::specs::Standing::instruction_count, crate::specs::Standing::now_at))]
     pub fn now(&self, i: u32) -> bool
         requires exists { i < instruction_count self.now }

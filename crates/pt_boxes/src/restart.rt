@@ -1,4 +1,4 @@
-//! Nodes that begin again.
+//! Nodes that restart.
 
 ghost use Rattle.std.specs.Prelude.{◌≡◌, ℕ, ◌<◌, length};
 ghost use Rattle.pt_boxes.specs.Boxes.{no_boxes};

@@ -1,4 +1,4 @@
-//! One row of all past-time instructions.
+//! One row for all past-time instructions.
 
 ghost use Rattle.std.specs.Prelude.{◌≡◌, ℕ, ◌+◌, ◌^◌, ◌<◌, ◌≤◌, length, sum_by};
 ghost use Rattle.mltl_base.specs.declared.limits.TheConstants.{MAX_MISSION};
@@ -17,7 +17,7 @@ use mltl_base::steps::Steps;
 use mltl_base::{PtOp, Seat};
 use std::sync::ledger::Ledger;
 
-/// An instruction: its boxes, whether it holds at the last row, and its part of the slab.
+/// An instruction: its boxes, its truth at the last row, and its part of the slab.
 #[derive(Drop)]
 pub struct Node {
     pub boxes: Boxes,
@@ -25,7 +25,7 @@ pub struct Node {
     pub seat: Seat,
 }
 
-/// Whether instruction `i` holds at the row.
+/// Returns true if instruction `i` holds at the row.
 fn truth_at(nodes: &[Node], i: u32) -> bool
     requires { i < length nodes.now }
     ensures { result ≡ (node_at nodes.now i).truth }
@@ -33,8 +33,8 @@ fn truth_at(nodes: &[Node], i: u32) -> bool
     nodes[i as usize].truth
 }
 
-/// Takes the row at time `now` for one instruction, after those `before` it: whether it holds then. It counts a step,
-/// besides those of a Since.
+/// Takes the row at time `now` for one instruction, after the nodes `before` it. Returns true if
+/// the instruction holds then. Counts a step, besides the steps of a Since.
 fn step<L: Ledger>(
     op: PtOp,
     bz: &Bz,

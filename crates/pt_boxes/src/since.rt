@@ -1,4 +1,4 @@
-//! One row of a Since over its boxes.
+//! One row for a Since over its boxes.
 
 ghost use Rattle.std.specs.Prelude.{◌≡◌, ℕ, Bool, ◌+◌, ◌^◌, ◌<◌, ◌≤◌, [], if◌then◌else◌};
 ghost use Rattle.mltl_base.specs.declared.limits.TheConstants.{MAX_MISSION};
@@ -14,7 +14,8 @@ use mltl_base::limits::MAX_BOUND;
 use mltl_base::steps::Steps;
 use std::sync::ledger::Ledger;
 
-/// Drops what ended before this time, and everything where the left operand is false then.
+/// Drops the oldest box if it ended before this time, and all boxes if the left operand is false
+/// then.
 fn age(boxes: &mut Boxes, spans: &[Span], now: u64, left: bool)
     requires belongs { SpansOf boxes.old spans.now }
     ensures belongs { SpansOf boxes.new spans.now }
@@ -30,7 +31,7 @@ fn age(boxes: &mut Boxes, spans: &[Span], now: u64, left: bool)
     }
 }
 
-/// The stretch that a right operand opens which is true at this time.
+/// Returns the stretch that a right operand opens if it is true at this time.
 fn stretch_from(window: Interval, now: u64) -> Span
     requires ordered { window.lo ≤ window.hi }
     requires bounded { window.hi ≤ MAX_BOUND }
@@ -60,7 +61,7 @@ fn open(boxes: &mut Boxes, spans: &mut [Span], window: Interval, now: u64, right
     }
 }
 
-/// Whether the last row's time lies in a box.
+/// Returns true if the last row's time lies in a box.
 fn holds(boxes: &Boxes, spans: &[Span], window: Interval, now: u64) -> bool
     requires belongs { SpansOf boxes.now spans.now }
     requires apart { SpansLieApart window (now + 1) 0 (kept boxes.now spans.now) }
@@ -72,8 +73,8 @@ fn holds(boxes: &Boxes, spans: &[Span], window: Interval, now: u64) -> bool
     }
 }
 
-/// Takes the row at time `now`, at which the operands are `left` and `right`: whether the Since holds then. It counts a
-/// step for its oldest and one for its newest box.
+/// Takes the row at time `now`, at which the operands are `left` and `right`. Returns true if the
+/// Since holds then. Counts a step for its oldest and one for its newest box.
 pub fn since_row<L: Ledger>(
     boxes: &mut Boxes,
     spans: &mut [Span],
