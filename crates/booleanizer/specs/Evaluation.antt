@@ -1,4 +1,4 @@
--- What the Booleanizer computes on a row, in numbers of 64 bits.
+-- The numbers of 64 bits that the Booleanizer computes on a row.
 -- A reader of the contracts needs this file.
 
 use Rattle.std.specs.Prelude.{◌≡◌, ◌≢◌, ◌<◌, ℕ, ℤ, pos, neg_ℤ, ◌+ℤ◌, ◌-ℤ◌, ◌*ℤ◌, int_div, int_rem, int_lt, int_le, Bool}
@@ -26,19 +26,18 @@ number_on row (truth a) = truth_number (holds a row)
 abbrev pub numbers_on : Row → List BzOp → List ℤ
 numbers_on row ops = map (number_on row) (expressions ops)
 
--- the value is that of an atom on the row whose numbers these are, whichever instructions computed them: of the atom
--- of instruction i
+-- the value is the truth, on the row with these numbers, of the atom of instruction i, whichever instructions computed them
 abbrev pub IsTruthIn : List ℤ → ℕ → Bool → Type 0
 IsTruthIn numbers i v =
     (row : Row) (ops : List BzOp) (atom : Atom) → numbers ≡ numbers_on row ops
     → slice_get (expressions ops) i ≡ Some (truth atom) → v ≡ holds atom row
 
--- the value of the integer at an index, over the expressions of the instructions before
+-- the value of the integer of instruction a, over the expressions of the instructions before
 abbrev pub value_at : Row → List Expression → ℕ → ℤ
 value_at row before a = value (term_at before a) row
 
--- what an instruction requires so that it can be computed in 64 bits: its column is in the row, its operands are
--- earlier integers, its divisor isn't 0, and its value has 64 bits
+-- the instruction can be computed in 64 bits: its column is in the row, its operands are earlier integers, its divisor isn't
+-- 0, and its value has 64 bits
 abbrev pub Computable : Row → List Expression → BzOp → Type 0
 Computable row before (Column c) = c < length row
 Computable row before (IsTrue c) = c < length row
@@ -55,7 +54,7 @@ Computable row before (Eq a b) = AreWhole before a b
 Computable row before (Lt a b) = AreWhole before a b
 Computable row before (Le a b) = AreWhole before a b
 
--- each instruction can be computed, over the expressions of those before it
+-- each instruction can be computed, over the expressions of the instructions before it
 unfoldable pub AllCompute : Row → List Expression → List BzOp → Type 0
 AllCompute row before [] = ⊤
 AllCompute row before (op ∷ ops) =
@@ -63,11 +62,11 @@ AllCompute row before (op ∷ ops) =
 
 -- ---- one instruction over numbers
 
--- the number of an earlier instruction; 0 where there is none
+-- the number of an earlier instruction; 0 if there is none
 abbrev pub number_at : List ℤ → ℕ → ℤ
 number_at numbers a = slice_index_or numbers a (pos 0)
 
--- the number that an instruction makes of a row and of the numbers of the instructions before it
+-- the number of an instruction, from a row and the numbers of the instructions before it
 abbrev pub result_of : Row → List ℤ → BzOp → ℤ
 result_of row numbers (Column c) = in_column row c
 result_of row numbers (IsTrue c) = truth_number (int_eq (in_column row c) (pos 1))
@@ -82,11 +81,12 @@ result_of row numbers (Eq a b) = truth_number (int_eq (number_at numbers a) (num
 result_of row numbers (Lt a b) = truth_number (int_lt (number_at numbers a) (number_at numbers b))
 result_of row numbers (Le a b) = truth_number (int_le (number_at numbers a) (number_at numbers b))
 
--- two instructions are among those before
+-- two operands are among the instructions before
 abbrev pub AreIn : List ℤ → ℕ → ℕ → Type 0
 AreIn numbers a b = (a < length numbers) × (b < length numbers)
 
--- the same of what an instruction asks
+-- the instruction can be computed in 64 bits: its column is in the row, its operands are among the numbers, its divisor
+-- isn't 0, and its value has 64 bits
 abbrev pub CanApply : Row → List ℤ → BzOp → Type 0
 CanApply row numbers (Column c) = c < length row
 CanApply row numbers (IsTrue c) = c < length row

@@ -12,8 +12,8 @@ use std::alloc::{AllocError, Global};
 use std::marker::Model;
 use std::sync::ledger::Ledger;
 
-/// The numbers of a program's instructions on the last row, which contracts see as the list of them: integers, and
-/// Booleans as 1 and 0.
+/// The numbers of a program's instructions on the last row: integers, and Booleans as 1 and 0.
+/// Contracts see the list of these numbers.
 #[derive(Drop)]
 pub struct Bz {
     numbers: Fixed<i64>,
@@ -28,7 +28,7 @@ impl Model for Bz {
 }
 
 impl Bz {
-    /// The state of a program's Booleanizer. No row was given yet.
+    /// Creates the state of a program's Booleanizer, before the first row.
     pub fn make(alloc: Global, checked: &Checked) -> Result<Bz, AllocError>
         ensures { IfOk result (λ bz. length bz ≡ length checked.now.bz) }
     {
@@ -37,7 +37,7 @@ impl Bz {
         })
     }
 
-    /// Computes all instructions on a row, in a step for each. It does not allocate.
+    /// Computes all instructions on a row, in a step for each. Does not allocate.
     pub fn row<L: Ledger>(&mut self, checked: &Checked, fields: &[i64], steps: &mut Steps<L>)
         requires len { length self.old ≡ length checked.now.bz }
         requires fit { IsFit checked.now fields.now }
@@ -53,7 +53,7 @@ impl Bz {
         );
     }
 
-    /// The truth of an instruction on the last row.
+    /// Returns the truth of an instruction on the last row.
     pub fn truth(&self, i: u32) -> bool
         requires { i < length self.now }
         ensures { IsTruthIn self.now i result }

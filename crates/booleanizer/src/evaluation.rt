@@ -13,7 +13,8 @@ fn number_of(truth: bool) -> i64
     if truth { 1 } else { 0 }
 }
 
-/// The remainder, with the sign of the left operand. That by -1 is 0, also where the quotient has no 64 bits.
+/// Returns the remainder, with the sign of the left operand. By -1 it is 0, even if the quotient
+/// has more than 64 bits.
 fn remainder(a: i64, b: i64) -> i64
     requires { b ≢ pos 0 }
     ensures { result ≡ int_rem a b }
@@ -21,7 +22,7 @@ fn remainder(a: i64, b: i64) -> i64
     if b == -1 { 0 } else { a % b }
 }
 
-/// The number that an instruction makes of a row and of the numbers of the instructions before it.
+/// Returns the number of an instruction, from a row and the numbers of the instructions before it.
 fn result_of(op: BzOp, row: &[i64], numbers: &[i64]) -> i64
     requires { CanApply row.now numbers.now op }
     ensures { result ≡ result_of row.now numbers.now op }
@@ -42,8 +43,8 @@ fn result_of(op: BzOp, row: &[i64], numbers: &[i64]) -> i64
     }
 }
 
-/// Computes the numbers of all instructions on a row: integers, and Booleans as 1 and 0, in a step for each. It does not
-/// allocate.
+/// Computes the numbers of all instructions on a row: integers, and Booleans as 1 and 0, in a step
+/// for each. Does not allocate.
 pub fn evaluate<L: Ledger>(ops: &[BzOp], row: &[i64], numbers: &mut [i64], steps: &mut Steps<L>)
     requires len { length numbers.old ≡ length ops.now }
     requires can { AllCompute row.now [] ops.now }

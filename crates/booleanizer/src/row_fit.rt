@@ -10,9 +10,9 @@ use mltl_base::steps::Steps;
 use obs_verify::Checked;
 use std::sync::ledger::Ledger;
 
-/// Whether the fields are a row of the program: as many as it is wide, and in each column that it reads a value of
-/// its kind, which is a number of 32 bits with a sign, or 0 or 1 for a Boolean. Its steps are the instructions that it looks
-/// at, of which each reads a column at most.
+/// Returns true if the fields are a row of the program: as many as it is wide, with a value of its
+/// kind in each column that it reads, which is a number of 32 bits with a sign, or 0 or 1 for a
+/// Boolean. Its steps are the instructions that it checks, each of which reads at most one column.
 pub fn is_fit<L: Ledger>(checked: &Checked, fields: &[i64], steps: &mut Steps<L>) -> bool
     ensures fit { IsTrue result ↔ IsFit checked.now fields.now }
     ensures counted { steps.new ≤ steps.old + length checked.now.bz }
@@ -30,7 +30,7 @@ pub fn is_fit<L: Ledger>(checked: &Checked, fields: &[i64], steps: &mut Steps<L>
     true
 }
 
-/// Whether a row has what an instruction asks of it. A column past its end holds 0.
+/// Returns true if a row has what an instruction requires. A column past its end holds 0.
 fn fits(op: &BzOp, fields: &[i64]) -> bool
     ensures { IsTrue result ↔ FitsRow fields.now op.now }
 {
