@@ -1,4 +1,4 @@
-//! The time that a line begins with.
+//! The time at the start of a line.
 
 ghost use Rattle.std.specs.Prelude.{◌≡◌, ◌≤◌, ◌<◌, ℕ, IsTrue, IsSome, IfSome, ◌↔◌, length};
 ghost use Rattle.std.specs.Char.{is_ascii_digit};
@@ -10,22 +10,23 @@ ghost use Rattle.sparse_feed.specs.Stamps.{IfAt, has_stamp, in_64_bits, may_foll
 use mltl_base::blanks::is_blank_line;
 use std::str;
 
-/// What a line says of its time.
+/// The result of reading a line's time.
 #[derive(Clone, Copy)]
 pub enum Stamp {
-    /// The time, and the place of the first byte after the comma, or the line's length where it has no comma.
+    /// The time, and the place of the first byte after the comma, or the line's length if it has no
+    /// comma.
     At(u64, usize),
-    /// Nothing but spaces and tabs.
+    /// The line has nothing but spaces and tabs.
     Blank,
     /// The line doesn't begin with `@`, one or more digits, and then a comma or its end.
     Bad,
-    /// The first time isn't 0, or the time isn't above the one before.
+    /// The first time isn't 0, or the time isn't above the time before it.
     Order,
     /// The time is at least the mission time.
     Late,
 }
 
-/// How many digits there are at the start.
+/// Returns the number of digits at the start.
 fn digits_size(text: &[u8]) -> usize
     ensures longest { result ≡ prefix_len is_ascii_digit text.now }
     ensures inside { result ≤ length text.now }
@@ -33,7 +34,7 @@ fn digits_size(text: &[u8]) -> usize
     text.iter().take_while(|byte| byte.is_ascii_digit()).count()
 }
 
-/// The digits of the stamp that a line begins with, if it begins with one.
+/// Returns the digits of the stamp at the start of a line, if it has one.
 #[tactic(auto, using(crate::proofs::Digits::prefix_digits), unfolding(crate::specs::Stamps::stamp_digits))]
 fn stamp_digits(line: &[u8]) -> Option<&[u8]>
     ensures stamp { IsSome result ↔ IsTrue (has_stamp line.now) }
@@ -55,7 +56,7 @@ fn stamp_digits(line: &[u8]) -> Option<&[u8]>
     }
 }
 
-/// The number that digits write, where it has 64 bits.
+/// Returns the number that digits write, if it has 64 bits.
 fn number_of(digits: &[u8]) -> Option<u64>
     requires some { 0 < length digits.now }
     requires alone { IsTrue (list_all is_ascii_digit digits.now) }
@@ -67,7 +68,8 @@ fn number_of(digits: &[u8]) -> Option<u64>
     }
 }
 
-/// Whether the first time is 0, and a later one above the one before. One without a number has more than 64 bits.
+/// Returns true if a first time is 0, or a later one is above the last. `None` is a time of more
+/// than 64 bits.
 fn may_follow(last: Option<u64>, time: Option<u64>) -> bool
     ensures { (n : ℕ) → time ≡ in_64_bits n → result ≡ may_come_after last n }
 {
@@ -79,7 +81,7 @@ fn may_follow(last: Option<u64>, time: Option<u64>) -> bool
     }
 }
 
-/// What a time says. One without a number has more than 64 bits.
+/// Returns the result for a time. `None` is a time of more than 64 bits.
 fn timed(last: Option<u64>, mission: u64, place: usize, time: Option<u64>) -> Stamp
     ensures { (n : ℕ) → time ≡ in_64_bits n → result ≡ timed_as last mission place n }
 {
@@ -92,9 +94,9 @@ fn timed(last: Option<u64>, mission: u64, place: usize, time: Option<u64>) -> St
     }
 }
 
-/// Returns the time of a line, by the time of the line before it and by the mission time, or its first fault. A stamp
-/// may have leading zeros and any number of digits. The row begins at the index that is returned with the time. It
-/// does not allocate.
+/// Returns the time of a line, or its first fault, by the time of the line before it and the
+/// mission time. A stamp may have leading zeros and any number of digits. The row begins at the
+/// index that is returned with the time. Does not allocate.
 pub fn stamp_of(line: &[u8], last: Option<u64>, mission: u64) -> Stamp
     ensures told { result ≡ stamp_meaning line.now last mission }
     ensures within { IfAt result (λ time place. place ≤ length line.now) }
@@ -113,7 +115,7 @@ pub fn stamp_of(line: &[u8], last: Option<u64>, mission: u64) -> Stamp
     }
 }
 
-/// How many times lie between a time and the one before it; 0 for the first.
+/// Returns the number of times between a time and the one before it; 0 for the first.
 pub fn gap(last: Option<u64>, time: u64) -> u64
     requires { IsTrue (may_come_after last time) }
     ensures { result ≡ times_between last time }
