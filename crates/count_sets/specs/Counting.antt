@@ -1,4 +1,4 @@
--- Counting quantifiers as formulas over numbered bodies, and what they count.
+-- Counting quantifiers as formulas over numbered bodies, and the numbers that they count.
 
 use Rattle.std.specs.Prelude.{ℕ, zero, suc, ◌+◌, Bool, true, false, not, ◌&&◌, ◌||◌, if◌then◌else◌, List, nat_eq}
 use Rattle.std.specs.Prelude.{nat_le, slice_index_or, count_by}
@@ -26,7 +26,7 @@ counting Exactly n m = both (least m n) (negation (least (m + 1) n))
 counting AtLeast n m = least m n
 counting AtMost n m = negation (least (m + 1) n)
 
--- whether a formula holds, given whether each body holds
+-- the truth of a formula, from the truths of the bodies
 unfoldable pub truth_under : List Bool → Counted → Bool
 truth_under bodies (truth v) = v
 truth_under bodies (body i) = slice_index_or bodies i false
@@ -34,11 +34,11 @@ truth_under bodies (both p q) = truth_under bodies p && truth_under bodies q
 truth_under bodies (either p q) = truth_under bodies p || truth_under bodies q
 truth_under bodies (negation p) = not (truth_under bodies p)
 
--- the number of true ones among bodies: each place counts
+-- the number of true bodies: each place counts
 abbrev pub true_count : List Bool → ℕ
 true_count bodies = count_by (λ v. v) bodies
 
--- whether a count is exactly, at least, or at most m
+-- true if a count is exactly, at least, or at most m
 abbrev pub compares : CountOp → ℕ → ℕ → Bool
 compares Exactly m count = nat_eq count m
 compares AtLeast m count = nat_le m count

@@ -1,4 +1,4 @@
--- Networks of gates: what each gate represents, and what comes out of it.
+-- Networks of gates: the formula and the truth of each gate.
 
 use Rattle.std.specs.Prelude.{◌≡◌, ℕ, ◌-◌, ◌<◌, Bool, false, not, ◌&&◌, ◌||◌, List, [], ◌∷◌, ◌++◌, length, slice_get}
 use Rattle.std.specs.Prelude.{slice_index_or, Option, Some, fold, ⊤}
@@ -10,7 +10,7 @@ use Rattle.count_sets.specs.Counting.{Counted, truth, body, both, either, negati
 abbrev pub formula_of_gate : List Counted → ℕ → Counted
 formula_of_gate gate_formulas i = slice_index_or gate_formulas i (truth false)
 
--- what a gate represents, over the formulas of the gates before it
+-- the formula of a gate, over the formulas of the gates before it
 abbrev pub gate_meaning : List Counted → Gate → Counted
 gate_meaning earlier (Truth v) = truth v
 gate_meaning earlier (Body i) = body i
@@ -22,11 +22,11 @@ gate_meaning earlier (Not a) = negation (formula_of_gate earlier a)
 unfoldable pub gate_formulas : List Gate → List Counted
 gate_formulas gates = fold (λ earlier gate. earlier ++ gate_meaning earlier gate ∷ []) [] gates
 
--- whether body or gate i holds
+-- the truth of body or gate i
 abbrev pub gate_holds : List Bool → ℕ → Bool
 gate_holds truths i = slice_index_or truths i false
 
--- what comes out of a gate, given whether each body and each gate before it holds
+-- the truth of a gate, from the truths of the bodies and of the gates before it
 abbrev pub gate_truth : List Bool → List Bool → Gate → Bool
 gate_truth bodies earlier (Truth v) = v
 gate_truth bodies earlier (Body i) = gate_holds bodies i
@@ -34,7 +34,7 @@ gate_truth bodies earlier (Both a b) = gate_holds earlier a && gate_holds earlie
 gate_truth bodies earlier (Either a b) = gate_holds earlier a || gate_holds earlier b
 gate_truth bodies earlier (Not a) = not (gate_holds earlier a)
 
--- what comes out of the gates, in order
+-- the truths of the gates, in order
 unfoldable pub truths : List Bool → List Gate → List Bool
 truths bodies gates = fold (λ earlier gate. earlier ++ gate_truth bodies earlier gate ∷ []) [] gates
 
@@ -42,7 +42,7 @@ truths bodies gates = fold (λ earlier gate. earlier ++ gate_truth bodies earlie
 abbrev pub last_formula : List Gate → Option Counted
 last_formula gates = slice_get (gate_formulas gates) (length gates - 1)
 
--- whether the last gate holds
+-- the truth of the last gate
 abbrev pub last_truth : List Bool → List Gate → Option Bool
 last_truth bodies gates = slice_get (truths bodies gates) (length gates - 1)
 
@@ -54,10 +54,10 @@ IsOver n i (Both a b) = (a < i) × (b < i)
 IsOver n i (Either a b) = (a < i) × (b < i)
 IsOver n i (Not a) = a < i
 
--- each gate of the list is so
+-- each gate of the list has earlier gates as operands, and bodies below n
 pub record IsNetwork (n : ℕ) (gates : List Gate) : Type 0 where
   pub over : (i : ℕ) (gate : Gate) → slice_get gates i ≡ Some gate → IsOver n i gate
 
--- equal gates are one gate
+-- no gate occurs twice
 pub record IsShared (gates : List Gate) : Type 0 where
   pub once : (i j : ℕ) (gate : Gate) → slice_get gates i ≡ Some gate → slice_get gates j ≡ Some gate → i ≡ j

@@ -1,4 +1,4 @@
-//! The gates of a network.
+//! Gates of a network.
 
 /// A gate over numbered bodies. Bodies and gates count from 0; operands are numbers of earlier gates.
 #[derive(Clone, Copy)]

@@ -1,8 +1,9 @@
 //! Counting quantifiers as networks of shared gates.
 //!
-//! [`network`] gives the gates of "exactly, at least or at most `m` of `n` bodies are true". A gate names earlier gates
-//! as its operands, and the last one is the result. `counting` in `specs/Counting.antt` is the formula that it unfolds
-//! to, and [`formula_counts`] is the law that this formula counts.
+//! [`network`] returns the gates of "exactly, at least or at most `m` of `n` bodies are true". A
+//! gate names earlier gates as its operands, and the last one is the result. `counting` in
+//! `specs/Counting.antt` is the formula that it unfolds to, and [`formula_counts`] is the law that
+//! this formula counts.
 //!
 //! ```
 //! fn ands_of(alloc: Global) -> Result<usize, AllocError> {

@@ -1,4 +1,4 @@
-//! The networks of counting quantifiers.
+//! Networks of counting quantifiers.
 
 ghost use Rattle.std.specs.Prelude.{◌≡◌, ℕ, ◌+◌, ◌*◌, ◌^◌, ◌<◌, ◌≤◌, min, List as Seq, Bool, Some, length, IfOk};
 ghost use Rattle.mltl_base.specs.declared.limits.TheConstants.{MAX_WEIGHT};
@@ -10,20 +10,20 @@ use crate::table::{Plan, Table, add};
 use mltl_base::{CountOp, List};
 use std::alloc::{AllocError, Global};
 
-/// The gates of a counting quantifier over `n` bodies with the number `m`, the result last.
+/// Returns the gates of a counting quantifier over `n` bodies with the number `m`, the result last.
 ///
-/// Every place among the bodies counts, also where two of them are the same formula. The time is linear in the gates.
-/// The only error is want of memory.
+/// Every place among the bodies counts, even if two of them are the same formula. The time is
+/// linear in the gates. The only error is out of memory.
 pub fn network(alloc: Global, op: CountOp, n: u32, m: u32) -> Result<List<Gate>, AllocError>
     requires some { 1 ≤ n }
     requires weight { 2 * n * (min m n + 1) + 4 ≤ MAX_WEIGHT }
-    // over any truths of the bodies the last gate says how the number of true ones compares to m
+    // For any truths of the bodies, the last gate compares the number of true bodies to m.
     ensures counts { IfOk result (λ gates. (bodies : Seq Bool) → length bodies ≡ n
         → last_truth bodies gates ≡ Some (compares op m (true_count bodies))) }
     ensures unfolds { IfOk result (λ gates. last_formula gates ≡ Some (counting op n m)) }
-    // operands are earlier gates, bodies are below n
+    // Operands are earlier gates, bodies are below n.
     ensures formed { IfOk result (λ gates. IsNetwork n gates) }
-    // equal gates are one gate, and so are equal sub-networks
+    // Equal gates are one gate, and so are equal sub-networks.
     ensures shared { IfOk result (λ gates. IsShared gates) }
     ensures size { IfOk result (λ gates. length gates ≤ n + 2 * n * (min m n + 1) + 4) }
 {
@@ -34,7 +34,8 @@ pub fn network(alloc: Global, op: CountOp, n: u32, m: u32) -> Result<List<Gate>,
     }
 }
 
-/// As many as `m`: `true` alone where none are asked for, `false` alone where there are fewer bodies.
+/// Returns the gates of "at least `m`": only `true` if `m` is 0, only `false` if there are fewer
+/// bodies.
 fn at_least(alloc: Global, n: u32, m: u32) -> Result<List<Gate>, AllocError>
     requires some { 1 ≤ n }
     requires weight { 2 * n * (min m n + 1) + 4 ≤ MAX_WEIGHT }
@@ -58,7 +59,7 @@ fn at_least(alloc: Global, n: u32, m: u32) -> Result<List<Gate>, AllocError>
     Ok(gates)
 }
 
-/// Not more than `m`: `!false` where there are no more bodies.
+/// Returns the gates of "at most `m`": `!false` if there are no more bodies.
 fn at_most(alloc: Global, n: u32, m: u32) -> Result<List<Gate>, AllocError>
     requires some { 1 ≤ n }
     requires weight { 2 * n * (min m n + 1) + 4 ≤ MAX_WEIGHT }
@@ -84,7 +85,7 @@ fn at_most(alloc: Global, n: u32, m: u32) -> Result<List<Gate>, AllocError>
     Ok(gates)
 }
 
-/// As many as `m` and not more.
+/// Returns the gates of "exactly `m`".
 fn exactly(alloc: Global, n: u32, m: u32) -> Result<List<Gate>, AllocError>
     requires some { 1 ≤ n }
     requires weight { 2 * n * (min m n + 1) + 4 ≤ MAX_WEIGHT }

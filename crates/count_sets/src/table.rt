@@ -7,7 +7,7 @@ use crate::gate::Gate;
 use mltl_base::List;
 use std::alloc::{AllocError, Global};
 
-/// Which thresholds over how many bodies are asked for: those from `lowest` to `highest`.
+/// The thresholds that are needed, from `lowest` to `highest`, and the number of bodies.
 #[derive(Clone, Copy)]
 pub struct Plan {
     pub bodies: u32,
@@ -22,7 +22,7 @@ pub struct Table {
     pub row: Vec<u32>,
 }
 
-/// Puts a gate last and gives its number.
+/// Appends a gate and returns its number.
 pub fn add(gates: &mut List<Gate>, gate: Gate) -> Result<u32, AllocError>
     requires { length gates.old < 2 ^ 32 }
     ensures added { OnOk result (gates.new ≡ gates.old ++ gate ∷ []) }
@@ -45,7 +45,7 @@ fn cell(gates: &mut List<Gate>, body: u32, fewer: u32, same: u32) -> Result<u32,
 }
 
 impl Table {
-    /// Goes from row `k` to row `k + 1`, by the cells that the plan asks for.
+    /// Goes from row `k` to row `k + 1`, by the cells that the plan needs.
     fn extend(&mut self, plan: Plan, k: u32) -> Result<(), AllocError>
         requires next { k < plan.bodies }
         requires plan { IsPlan plan }
@@ -68,7 +68,7 @@ impl Table {
         Ok(())
     }
 
-    /// The whole table of a plan.
+    /// Builds the whole table of a plan.
     pub fn of(alloc: Global, plan: Plan) -> Result<Table, AllocError>
         requires some { 1 ≤ plan.bodies }
         requires plan { IsPlan plan }
