@@ -1,4 +1,4 @@
-//! The compiler `c2po`: it makes an observer program for `r2u2` of a specification.
+//! The compiler `c2po`: it makes observer programs for `r2u2` from specifications.
 #![tactic(auto)]
 
 ghost use Rattle.std.specs.Process.{exit_status};

@@ -12,7 +12,7 @@ use obs_binary::ProgramFault;
 #[repr(C)]
 #[derive(Clone, Copy)]
 pub struct Fault {
-    /// The kind, from 1 to 23; `include/r2u2.h` names them.
+    /// The kind, from 1 to 23; `embed/include/r2u2.h` names them.
     pub kind: u32,
     /// The part of the program: 1 bz, 2 ft, 3 pt; 0 if the fault is in no part.
     pub part: u32,

@@ -1,5 +1,5 @@
-//! The monitor as a library for C. `include/r2u2.h` declares its calls and the duties of a caller
-//! in C.
+//! The monitor as a library for C. `embed/include/r2u2.h` declares its calls and the duties of a
+//! caller in C.
 //!
 //! C keeps a struct [`R2u2`], all zero at first, and passes its address to each call. It passes
 //! nothing for an allocator, which has no bytes. If a call returns a code of [`codes`] above 0, the
