@@ -86,7 +86,7 @@ shown_as file written (Ok program) opens is =
       opens = opens;
       text = sym within.1;
       image = λ source columns of. given_back (compile_over source columns) program file written (image_back source columns of.faultless) of.fits of.bytes opens within.0 within.1;
-      simplify_over = λ source columns of. given_back (compile_simplified_over source columns) program file written (simple_back source columns of.faultless) of.fits of.bytes opens within.0 within.1;
+      simple_image = λ source columns of. given_back (compile_simplified_over source columns) program file written (simple_back source columns of.faultless) of.fits of.bytes opens within.0 within.1;
     }
 shown_as file written (Err fault) opens is = absurd (cc)
 

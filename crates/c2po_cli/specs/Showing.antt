@@ -32,7 +32,7 @@ pub record IsShown (file written : List ℕ) : Type 0 where
   pub opens : opened file ≡ Ok program
   pub text : written ≡ text_of (up program)
   pub image : (source : List ℕ) (columns : Columns) → IsImageFile source columns file → Returns program file written
-  pub simplify_over : (source : List ℕ) (columns : Columns) → IsSimpleImageFile source columns file
+  pub simple_image : (source : List ℕ) (columns : Columns) → IsSimpleImageFile source columns file
       → Returns program file written
 
 -- the output for a file that is shown is the text of its program; the output for another product is any

@@ -206,6 +206,6 @@ pub program_told : (style : Style) (file : List ℕ) (header : Option (List ℕ)
 program_told style file header program rows runs = record {
   unfolded = record { lines_are = refl; settled = are_settled style (outputs program) rows };
   image = λ text own is. image_told style text own rows file header program runs is;
-  simplify_over = λ text own is. simple_told style text own rows file header program runs is;
+  simple_image = λ text own is. simple_told style text own rows file header program runs is;
   first_image = λ text own is. first_told style text own rows file header program runs is;
 }

@@ -54,7 +54,7 @@ pub record TellsProgram (style : Style) (file : List ℕ) (header : Option (List
   pub unfolded : TellsOf style program (output_names program) (outputs program) rows
   pub image : (text : List ℕ) (own : Columns) → IsImageFile text own file
       → TellsImage style text own header program rows
-  pub simplify_over : (text : List ℕ) (own : Columns) → IsSimpleImageFile text own file
+  pub simple_image : (text : List ℕ) (own : Columns) → IsSimpleImageFile text own file
       → TellsSimple style text own header program rows
   pub first_image : (text : List ℕ) (own : Columns) → IsFirstImageFile text own file
       → TellsText style text own program rows

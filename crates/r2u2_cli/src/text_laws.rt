@@ -25,7 +25,7 @@ pub fn images_tell_their_texts()
         (program : Observer) (rows : Seq Row) → IsImageFile text own file →
         program_by Program file header ≡ Ok program →
         TellsImage style text own header program rows }
-    ensures simplify_over { (style : Style) (text file : Seq ℕ) (own : Places)
+    ensures simple_image { (style : Style) (text file : Seq ℕ) (own : Places)
         (header : Maybe (Seq ℕ)) (program : Observer) (rows : Seq Row) →
         IsSimpleImageFile text own file → program_by Program file header ≡ Ok program →
         TellsSimple style text own header program rows }
