@@ -11,7 +11,10 @@ import unittest
 from unittest import mock
 
 import random_specs
+from shown_text import definitions
 from support import ROOT, Case, program, tool
+from r2u2tools.budget.costs import Costs
+from r2u2tools.common.compiled import compiled
 
 import r2u2
 
@@ -40,6 +43,8 @@ shared, and there once
   late: F[0,5] near  by a, b
 """
 
+# The outputs as trees are more than 65,536 leaves and operators.
+MANY = f"INPUT p: bool;\nPTSPEC few: foratmost(k: {{{', '.join(f'O[{k},{k}] p' for k in range(30))}}}, 3)(k);\n"
 NO_LIBRARY = {"R2U2_LIBRARY": "nowhere.so"}
 
 
@@ -97,6 +102,25 @@ class Figures(Case):
         program("c2po")
         for seed in range(SPECS):
             self.check(self.file("spec.c2po", random_specs.spec(random.Random(seed))))
+
+    def test_a_program_file_is_read_as_c2po_writes_it(self):
+        """Its definitions are those of --show, its sizes and delays those of --table."""
+        for seed in range(SPECS):
+            text = random_specs.spec(random.Random(seed)) + "INPUT d0, d2: int;\nFTSPEC more: -d0 % 3 == d2 - 7 => F[1,2] (d0 / -2 < d2);\n"
+            made = compiled(self.file("spec.c2po", text), self.folder)
+            shown = definitions(subprocess.run([program("c2po"), "--show", str(made.path)], stdout=subprocess.PIPE, check=True, encoding="ascii").stdout)
+            found = made.shown
+            self.assertEqual((found.signals, found.nodes, found.outputs), (shown.signals, shown.nodes, shown.outputs))
+            costs = Costs(made)
+            for row in table(self.folder / "spec.c2po"):
+                place = row["engine"], int(row["number"])
+                self.assertEqual(costs.all[place].op, row["operation"])
+                self.assertEqual((costs.best[place], costs.worst[place]), (int(row["best"] or 0), int(row["worst"] or 0)))
+                self.assertEqual(costs.all[place].size, int(row["size"] or 0))
+
+    def test_a_program_that_is_too_large_to_show(self):
+        found = self.told(self.file("few.c2po", MANY))
+        self.assertEqual((found["whole"]["pt"], found["whole"]["boxes"]), (437, 240))
 
     def test_steps_by_hand(self):
         """Load, true, load, until, not, and, not with 4, 1, 1, 4, 4, 4 and 4 slots; two instructions of the Booleanizer, an

@@ -4,7 +4,7 @@ import random
 import unittest
 from unittest import mock
 
-from r2u2tools.common.program_text import program_text
+from shown_text import definitions
 from r2u2tools.why import row_values
 from r2u2tools.why.omega import Omega, Unknown, value_of
 from r2u2tools.why.row_values import quotient
@@ -43,7 +43,7 @@ def question(dice):
         left, right = expression(dice, lines, 2), expression(dice, lines, 1)
         lines.append(f"DEFINE n{len(lines)} := {left} {dice.choice(('==', '<', '<='))} {right};")
         words[f"n{len(lines) - 1}"] = dice.randint(0, 1)
-    shown = program_text("\n".join(["INPUT x: int;", "INPUT y: int;", *lines, ""]))
+    shown = definitions("\n".join(["INPUT x: int;", "INPUT y: int;", *lines, ""]))
     return shown, words, {"x": dice.randint(-3, 3)} if dice.random() < 0.3 else {}
 
 
@@ -86,7 +86,7 @@ class RowValues(unittest.TestCase):
             ("DEFINE a := x <= 2147483647;", {"a": 0}),
             ("DEFINE n0 := 6 * x;\nDEFINE n1 := 10 * y;\nDEFINE n2 := n0 + n1;\nDEFINE a := n2 == 15;", {"a": 1}),
         ):
-            shown = program_text(f"INPUT x: int;\nINPUT y: int;\n{text}\n")
+            shown = definitions(f"INPUT x: int;\nINPUT y: int;\n{text}\n")
             self.assertIsNone(row_values.row_values(shown, words, {}), text)
 
     def test_sums(self):

@@ -8,7 +8,7 @@ from unittest import mock
 from support import Case
 
 from r2u2tools.common import traces
-from r2u2tools.common.specs import Signal
+from r2u2tools.common.program_file import Signal
 from r2u2tools.common.cli import Trouble
 from r2u2tools.common.verdict_lines import Reader
 

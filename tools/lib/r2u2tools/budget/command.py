@@ -52,8 +52,9 @@ from typing import Any, Iterable, Iterator, Optional
 
 from r2u2tools.common import cli
 from r2u2tools.common.compiled import compiled
-from r2u2tools.budget.costs import PARTS, Costs, Place
+from r2u2tools.budget.costs import Costs
 from r2u2tools.budget.library import bytes_of, why_none
+from r2u2tools.common.program_file import PARTS, Place
 from r2u2tools.common.expressions import shortened
 from r2u2tools.common.cli import Trouble
 from r2u2tools.common.tables import in_columns
@@ -121,7 +122,7 @@ def formula(costs: Costs, place: Place) -> dict[str, Any]:
     """The formula of an instruction, with its name where the specification gives it one."""
     it, text, ref = costs.all[place], costs.shown, costs.ref(place)
     found: dict[str, Any] = {"name": text.name(ref)} if text.name(ref) else {}
-    found |= {"formula": text.uncalled(ref), "part": it.part, "size": it.size, "steps": costs.work(it)}
+    found |= {"formula": text.uncalled(ref), "part": place[0], "size": it.size, "steps": costs.work(place)}
     return found | {"outputs": costs.readers[place]}
 
 
@@ -181,7 +182,7 @@ def main() -> int:
     if given.max_bytes is not None and why_none():
         raise Trouble(f"--max-bytes {given.max_bytes}: {why_none()}")
     with tempfile.TemporaryDirectory(prefix="budget-") as folder:
-        found = figures(Costs(compiled(given.spec, folder), folder), given)
+        found = figures(Costs(compiled(given.spec, folder)), given)
     print(json.dumps(found, indent=2) if given.json else "\n".join(as_text(found, given.rate)))
     faults = list(above(found, given))
     for fault in faults:

@@ -9,7 +9,9 @@ from pathlib import Path
 from typing import Iterator, Optional, Union
 
 from r2u2tools.common.expressions import TRUTHS, Expression, bound_names, plain, tree_of
-from r2u2tools.common.programs import program, ran, written
+from r2u2tools.common import programs
+from r2u2tools.common.program_file import Program, read_program
+from r2u2tools.common.programs import ran
 from r2u2tools.common.program_text import ProgramText, Requirement, program_text
 from r2u2tools.common.specs import MAGIC, Item, Spec, Token, read_spec
 from r2u2tools.common.cli import Trouble, opened
@@ -22,9 +24,10 @@ FilePath = Union[str, Path]
 
 @dataclass
 class Compiled:
-    """A program of version 2 in a file, its text, and what the file that was given stores."""
+    """A program of version 2 in a file, its definitions, and what the file that was given stores."""
 
     path: Path
+    program: Program
     shown: ProgramText
     given: Spec
     old: bool = False
@@ -33,20 +36,14 @@ class Compiled:
         """The bytes of the program that is run: those that were given, or that were compiled."""
         return self.given.raw or self.path.read_bytes()
 
-    def columns(self) -> list[str]:
-        """The names of the columns of a row, with others in columns without a signal."""
-        by_column = {signal.column: signal.name for signal in read_spec(self.path).signals}
-        free = (f"_{k}" for k in range(1 << 32) if f"_{k}" not in self.shown.signals)
-        return [by_column[k] if k in by_column else next(free) for k in range(max(by_column, default=-1) + 1)]
-
 
 def text_of(path: FilePath) -> ProgramText:
-    return program_text(written([program("c2po"), "--show", str(path)], "c2po --show").decode("ascii"))
+    return program_text(read_program(str(path), Path(path).read_bytes()))
 
 
 def make(spec: FilePath, out: FilePath, *words: str) -> None:
     """Compiles a specification; what c2po says of it is printed as it is."""
-    status, _, text = ran([program("c2po"), *words, "-o", str(out), str(spec)])
+    status, _, text = ran([programs.program("c2po"), *words, "-o", str(out), str(spec)])
     if status:
         raise Trouble(text.removeprefix("c2po: ") if text else f"c2po ended with status {status}")
 
@@ -61,7 +58,8 @@ def compiled(path: FilePath, folder: FilePath) -> Compiled:
     except Trouble as trouble:
         raise Trouble(f"{path}: {trouble}") from None
     given = read_spec(path)
-    made = Compiled(out, text_of(out), given, is_program and given.raw[4:6] == b"\x01\x00")
+    program = read_program(str(path), out.read_bytes())
+    made = Compiled(out, program, program_text(program), given, is_program and given.raw[4:6] == b"\x01\x00")
     if not is_program:
         for told, output in zip(made.shown.outputs, given.outputs):
             told.texts.update(zip(told.operands(), texts_of(given.text, output.body)))
@@ -104,9 +102,9 @@ def with_outputs(given: Spec, asked: dict[str, str], folder: FilePath) -> Option
     while left:
         lines = "\n".join(f"{section} {formula};" for formula, section in left.items())
         spec.write_text(f"{head}\n{lines}\n", encoding="latin-1")
-        status, _, refusal = ran([program("c2po"), "-o", str(out), str(spec)])
+        status, _, refusal = ran([programs.program("c2po"), "-o", str(out), str(spec)])
         if not status:
-            return shown_or_none(out, list(left))
+            return text_of(out), list(left)
         told = REFUSED.fullmatch(refusal)
         if not told or not 0 <= int(told[1]) - first < len(left):
             return None
@@ -119,14 +117,6 @@ def with_outputs(given: Spec, asked: dict[str, str], folder: FilePath) -> Option
         else:
             del left[formula]
     return None
-
-
-def shown_or_none(out: Path, formulas: list[str]) -> Optional[tuple[ProgramText, list[str]]]:
-    """The text of a program, where it isn't too large to show."""
-    try:
-        return text_of(out), formulas
-    except Trouble:
-        return None
 
 
 def equal_parts(text: ProgramText, other: ProgramText) -> Iterator[tuple[int, str, bool]]:

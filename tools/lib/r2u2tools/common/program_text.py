@@ -1,26 +1,23 @@
-"""A compiled program as text, as `c2po --show` writes it: its definitions, and how a formula is spelled.
+"""A compiled program as definitions, and how a formula is spelled.
 
-The text has the operators of the core alone. A formula is spelled with those
+A program has the operators of the core alone. A formula is spelled with those
 of the language where they can be found again: `!(true U[0,3] !p)` as `G[0,3] p`.
 """
 
 from __future__ import annotations
 
-import re
 from dataclasses import dataclass, field
-from itertools import product
+from itertools import count, product
 from typing import Optional
 
 from r2u2tools.common.cli import Trouble
+from r2u2tools.common.program_file import Place, Program
 
 # A formula without the denials around it, and whether it is denied.
 Bare = tuple[str, bool]
 
-SIGNAL = re.compile(r"INPUT (\w+): (bool|int);")
-OUTPUT = re.compile(r"(FTSPEC|PTSPEC) (?:(\w+): )?(-?\w+)(?: => (-?\w+))?;")
-DEFINED = re.compile(r"DEFINE (\w+) := (.*);")
-UNARY = re.compile(r"([-!])(-?\w+)")
-BINARY = re.compile(r"(-?\w+) (\+|-|\*|/|%|==|<=?|&&|[US])(?:\[(\d+),(\d+)\])? (-?\w+)")
+SIGNS = {"neg": "-", "add": "+", "sub": "-", "mul": "*", "div": "/", "rem": "%", "eq": "==", "lt": "<", "le": "<="}
+SIGNS |= {"not": "!", "and": "&&", "until": "U", "since": "S"}
 
 # How tightly an operator binds, as the language has it.
 LEVELS = {"<->": 1, "->": 2, "||": 3, "&&": 4, "U": 5, "R": 5, "S": 5, "+": 8, "-": 8, "*": 9, "/": 9, "%": 9}
@@ -31,7 +28,7 @@ TEMPORAL = (5, 6)
 ATOMS = ("==", "<", "<=")
 DENIED = {"==": "!=", "<": ">=", "<=": ">"}
 TURNED = {"<": ">", "<=": ">=", ">": "<", ">=": "<="}
-DEEPEST = 60
+DEEPEST, MOST_FORMS = 60, 2000
 
 
 @dataclass(frozen=True)
@@ -78,6 +75,8 @@ class ProgramText:
     signals: dict[str, str] = field(default_factory=dict)
     nodes: dict[str, Node] = field(default_factory=dict)
     outputs: list[Requirement] = field(default_factory=list)
+    # What each instruction is called.
+    refs: dict[Place, str] = field(default_factory=dict)
     # The names that the specification gives to formulas, and how it writes others.
     called: dict[Bare, str] = field(default_factory=dict)
     quoted: dict[Bare, str] = field(default_factory=dict)
@@ -132,12 +131,13 @@ class ProgramText:
 
     def is_negative(self, ref: str) -> bool:
         """Whether a formula is spelled shorter when it is denied: a denial without a name, or several joined by `&&`."""
-        left = [ref]
+        left, seen = [ref], set[str]()
         while left:
             ref = left.pop()
             if self.name(ref) or self.op(ref) not in ("!", "&&"):
                 return False
-            left += self.nodes[ref].operands() if self.op(ref) == "&&" else ()
+            seen.add(ref)
+            left += [it for it in self.nodes[ref].operands() if it not in seen] if self.op(ref) == "&&" else ()
         return True
 
     def bare(self, ref: str, denied: bool = False) -> Bare:
@@ -215,21 +215,9 @@ class ProgramText:
     def are_opposite(self, one: str, other: str) -> bool:
         return self.nodes.get(one) == Node("!", other) or self.nodes.get(other) == Node("!", one)
 
-    def text(self, ref: str, denied: bool = False, level: int = 1, depth: int = 0) -> str:
-        """A formula, or its denial, in the operators of the language; what lies too deep is three dots."""
-        form = self.form(ref, denied)
-        if not form.parts:
-            return form.op
-        if depth > DEEPEST:
-            return "..."
-        mine = NEGATIVE if form.op == "-" and len(form.parts) == 1 else LEVELS[form.op]
-        if len(form.parts) == 1:
-            text = form.op + form.window + (" " if form.window else "") + self.inner(form.parts[0], mine, mine, depth)
-        else:
-            sides = (mine + 1, mine) if form.op == "->" else (mine, mine + 1)
-            left, right = (self.inner(part, mine, side, depth) for part, side in zip(form.parts, sides))
-            text = f"{left} {form.op}{form.window} {right}"
-        return f"({text})" if mine < level else text
+    def text(self, ref: str, denied: bool = False) -> str:
+        """A formula, or its denial, in the operators of the language; of a large one the outer operators."""
+        return Spelling(self).text(ref, denied)
 
     def uncalled(self, ref: str) -> str:
         """A formula by its own operators, also where it has a name."""
@@ -240,32 +228,49 @@ class ProgramText:
             self.called[bare] = name
         return text
 
+
+class Spelling:
+    """Writes one formula, in which a part that is read several times is written as often; what is past MOST_FORMS is three dots."""
+
+    def __init__(self, program: ProgramText) -> None:
+        self.program, self.left = program, MOST_FORMS
+
+    def text(self, ref: str, denied: bool = False, level: int = 1, depth: int = 0) -> str:
+        form = self.program.form(ref, denied)
+        if not form.parts:
+            return form.op
+        self.left -= 1
+        if depth > DEEPEST or self.left < 0:
+            return "..."
+        mine = NEGATIVE if form.op == "-" and len(form.parts) == 1 else LEVELS[form.op]
+        if len(form.parts) == 1:
+            text = form.op + form.window + (" " if form.window else "") + self.inner(form.parts[0], mine, mine, depth)
+        else:
+            sides = (mine + 1, mine) if form.op == "->" else (mine, mine + 1)
+            left, right = (self.inner(part, mine, side, depth) for part, side in zip(form.parts, sides))
+            text = f"{left} {form.op}{form.window} {right}"
+        return f"({text})" if mine < level else text
+
     def inner(self, part: Bare, mine: int, level: int, depth: int) -> str:
         """A part of a formula; a comparison below a temporal operator or a denial has brackets, for the eye."""
-        compared = LEVELS.get(self.form(*part).op) == COMPARED
+        compared = LEVELS.get(self.program.form(*part).op) == COMPARED
         return self.text(*part, level if mine not in TEMPORAL or not compared else LEAF, depth + 1)
 
 
-def node_of(form: str) -> Node:
-    if found := UNARY.fullmatch(form):
-        return Node(found[1], found[2])
-    if found := BINARY.fullmatch(form):
-        left, op, low, high, right = found.groups()
-        return Node(op, left, right, int(low or 0), int(high or 0))
-    raise Trouble(f"cannot read what c2po --show wrote: {form}")
-
-
-def program_text(text: str) -> ProgramText:
-    """What `c2po --show` wrote."""
-    found = ProgramText()
-    for line in text.splitlines():
-        if told := DEFINED.fullmatch(line):
-            found.nodes[told[1]] = node_of(told[2])
-        elif told := SIGNAL.fullmatch(line):
-            found.signals[told[1]] = told[2]
-        elif told := OUTPUT.fullmatch(line):
-            section, name, left, right = told.groups()
-            found.outputs.append(Requirement(name or str(len(found.outputs)), section, left, right or ""))
+def program_text(program: Program) -> ProgramText:
+    """The definitions of a program, with the names that `c2po --show` gives to them."""
+    found = ProgramText({it.name: it.kind for it in program.signals})
+    columns, fresh = program.columns(), (f"d{k}" for k in count() if f"d{k}" not in found.signals)
+    for place, it in program.instructions.items():
+        reads = [found.refs[operand] for operand in it.reads]
+        if it.op in SIGNS:
+            found.refs[place] = next(fresh)
+            found.nodes[found.refs[place]] = Node(SIGNS[it.op], reads[0], reads[1] if len(reads) > 1 else "", it.low, it.high)
+        elif it.op == "load":
+            found.refs[place] = reads[0]
         else:
-            raise Trouble(f"cannot read what c2po --show wrote: {line}")
+            found.refs[place] = columns[it.value] if it.op in ("column", "istrue") else str(it.value) if it.op == "const" else "true"
+    for told in program.outputs:
+        refs = [found.refs[root] for root in told.roots]
+        found.outputs.append(Requirement(told.name, told.section, refs[0], refs[1] if len(refs) > 1 else ""))
     return found

@@ -6,7 +6,8 @@ from pathlib import Path
 from typing import Sequence
 
 from r2u2tools.common import programs
-from r2u2tools.common.specs import Signal, Spec, read_spec, spec_of_text
+from r2u2tools.common.program_file import Signal
+from r2u2tools.common.specs import Spec, read_spec, spec_of_text
 from r2u2tools.common.cli import Trouble
 
 TOLD = ("FTSPEC", "PTSPEC")

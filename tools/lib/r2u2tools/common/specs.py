@@ -7,12 +7,12 @@ that names can be found; a text that c2po refuses may pass.
 from __future__ import annotations
 
 import re
-import struct
 from dataclasses import dataclass, field
 from pathlib import Path
 from typing import Iterator, Optional, Union
 
 from r2u2tools.common.cli import Trouble, told_os
+from r2u2tools.common.program_file import Signal, read_program
 
 SECTIONS = ("STRUCT", "INPUT", "DEFINE", "FTSPEC", "PTSPEC")
 TOKEN = re.compile(
@@ -40,13 +40,6 @@ class Item:
     body: list[Token]
     start: int = 0
     end: int = 0
-
-
-@dataclass
-class Signal:
-    name: str
-    kind: str
-    column: int
 
 
 @dataclass
@@ -134,25 +127,8 @@ def spec_of_text(path: str, text: str) -> Spec:
 
 def spec_of_bytes(path: str, raw: bytes) -> Spec:
     """The names that a compiled program stores."""
-    try:
-        version, _, _, bz, ft, pt, outs, _ = struct.unpack_from("<HHIIIIII", raw, 4)
-        count = struct.unpack_from("<I", raw, 32)[0] if version == 2 else 0
-        place = (40 if version == 2 else 32) + 24 * (bz + ft + pt)
-        told = [struct.unpack_from("<BB10xI8x", raw, place + 24 * k) for k in range(outs)]
-        place += 24 * outs
-        kept = [struct.unpack_from("<IBBH", raw, place + 8 * k) for k in range(count)]
-        place += 8 * count
-        outputs, signals = list[Output](), list[Signal]()
-        for _, engine, size in told:
-            name = raw[place : place + size].decode("ascii")
-            outputs.append(Output(name, "PTSPEC" if engine else "FTSPEC"))
-            place += size
-        for column, kind, size, _ in kept:
-            signals.append(Signal(raw[place : place + size].decode("ascii"), "bool" if kind else "int", column))
-            place += size
-    except (struct.error, UnicodeDecodeError):
-        raise Trouble(f"{path}: not a program that c2po wrote") from None
-    return Spec(path, signals, outputs, raw=raw)
+    found = read_program(path, raw)
+    return Spec(path, found.signals, [Output(it.name, it.section) for it in found.outputs], raw=raw)
 
 
 def read_spec(path: Union[str, Path]) -> Spec:

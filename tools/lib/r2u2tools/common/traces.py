@@ -16,7 +16,7 @@ from pathlib import Path
 from typing import Any, Iterator, Optional, Sequence, Union
 
 from r2u2tools.common.cli import Trouble, opened
-from r2u2tools.common.specs import Signal
+from r2u2tools.common.program_file import Signal
 from r2u2tools.common.streams import Readable, blocks_of, lines_in, too_long
 
 LONGEST = 65536

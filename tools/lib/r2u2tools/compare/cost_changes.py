@@ -4,7 +4,8 @@ from __future__ import annotations
 
 from dataclasses import dataclass
 
-from r2u2tools.budget.costs import PARTS, Costs
+from r2u2tools.budget.costs import Costs
+from r2u2tools.common.program_file import PARTS
 from r2u2tools.compare.differences import Version
 
 KINDS = (*PARTS, "slots", "boxes", "delay", "steps", "reports")
@@ -20,7 +21,7 @@ class CostChange:
 
 
 def figures(version: Version) -> dict[str, int]:
-    costs = Costs(version.made, version.folder)
+    costs = Costs(version.made)
     places, names = set(costs.all), list(costs.cones)
     found = {part: costs.count(places, part) for part in PARTS}
     found["slots"], found["boxes"] = costs.sizes(places, "ft"), costs.sizes(places, "pt")

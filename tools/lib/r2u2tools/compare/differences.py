@@ -119,7 +119,7 @@ def take(found: Comparison, old: Version, new: Version, trace: Trace) -> None:
 
 def order_note(old: Version, new: Version, logs: Sequence[str]) -> list[str]:
     """What is said where a log without a header is read in two ways."""
-    if old.made.columns() == new.made.columns():
+    if old.made.program.columns() == new.made.program.columns():
         return []
     return [
         f"{log} has no header, and the versions declare their signals in different orders"

@@ -54,7 +54,8 @@ from typing import Optional
 
 from r2u2tools.common import cli
 from r2u2tools.common.cli import Trouble
-from r2u2tools.common.specs import Signal, read_spec
+from r2u2tools.common.program_file import Signal
+from r2u2tools.common.specs import read_spec
 from r2u2tools.signals import Signals, read
 from r2u2tools.telemetry.records import Refused
 from r2u2tools.telemetry.fields import Columns

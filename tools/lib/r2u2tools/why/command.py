@@ -13,8 +13,8 @@ first, in the words of SPEC where it writes them. The cells that the first line
 names decide the verdict: whatever the others hold, it is the same. Of an open
 verdict they are the cells to come on which it depends.
 
-The verdicts of the parts are those of r2u2, which watches the text of the
-program (c2po --show) with each part as an output, over the rows that the
+The verdicts of the parts are those of r2u2, which watches the program with each
+part as an output, over the rows that the
 windows of the verdict reach. Where a verdict follows in several ways, a way
 with few cells is chosen, and a cell that isn't needed is left out: r2u2 finds
 that over rows with other values there. Long windows, of more than 256 cells or

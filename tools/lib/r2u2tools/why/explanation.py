@@ -135,8 +135,8 @@ class Explainer:
     def __init__(self, made: Compiled, told: Requirement, folder: Path) -> None:
         self.made, self.told, self.shown = made, told, made.shown
         self.parts = Parts(made.shown, told)
-        self.columns = made.columns()
-        self.watch = PartWatch(self.parts, self.columns, folder)
+        self.columns = made.program.columns()
+        self.watch = PartWatch(self.parts, made.program, folder)
         self.signals = [signal for signal in read_spec(made.path).signals if signal.name in self.parts.signals]
         quote(made, told, folder)
 

@@ -1,7 +1,7 @@
 """The verdicts of the parts of a formula, from r2u2 itself.
 
-The text of a program, with each part of one of its outputs as an output, is
-compiled once and watched over rows. Of each part the verdicts of those times
+The program, with each part of one of its outputs as an output, is watched over
+rows. Of each part the verdicts of those times
 are kept on which the output may depend.
 """
 
@@ -10,9 +10,9 @@ from __future__ import annotations
 import subprocess
 from dataclasses import dataclass, field
 from pathlib import Path
-from typing import Iterable, Iterator, Optional, Sequence
+from typing import Iterable, Optional, Sequence
 
-from r2u2tools.common.compiled import make
+from r2u2tools.common.program_file import Program
 from r2u2tools.common.program_text import Node, ProgramText, Requirement
 from r2u2tools.common.programs import message, program
 from r2u2tools.common.cli import Trouble
@@ -20,8 +20,6 @@ from r2u2tools.common.verdict_lines import Reader
 
 FALSE, TRUE, UNKNOWN = 0, 1, 2
 WORDS = {"T": TRUE, "F": FALSE, "verified": TRUE, "invalid": FALSE, "inactive": FALSE}
-# The outputs of one program weigh at most 65,536; those of a part never weigh more.
-MOST_WEIGHT = 60_000
 MOST_TIMES = 1 << 22
 
 
@@ -109,66 +107,32 @@ class Verdicts:
 class PartWatch:
     """Asks r2u2 for the verdicts of all parts, over any rows."""
 
-    def __init__(self, parts: Parts, columns: Sequence[str], folder: Path) -> None:
-        self.parts, self.shown, self.folder = parts, parts.shown, folder
-        self.batches: list[tuple[list[str], Path]] = []
-        header = Path(folder, "parts.csv")
-        header.write_text(f"#{','.join(columns)}\n", encoding="ascii")
-        for number, batch in enumerate(self.cut()):
-            spec, out = Path(folder, f"parts{number}.c2po"), Path(folder, f"parts{number}.obs")
-            spec.write_text(self.text(batch), encoding="ascii")
-            make(spec, out, "--header", str(header))
-            self.batches.append((batch, out))
-
-    def cut(self) -> Iterator[list[str]]:
-        """The parts in batches, each as large as a program may be."""
-        weight: dict[str, int] = {}
-        batch: list[str] = []
-        total = 0
-        for ref in self.parts.refs:
-            node = self.parts.node(ref)
-            weight[ref] = 1 + (sum(weight[it] for it in node.operands()) if node else len(self.shown.below(ref)))
-            if batch and total + weight[ref] > MOST_WEIGHT:
-                yield batch
-                batch, total = [], 0
-            batch.append(ref)
-            total += weight[ref]
-        yield batch
-
-    def text(self, batch: list[str]) -> str:
-        """A specification whose output k is part k of a batch."""
-        below, sections = self.shown.below(*batch), self.sections()
-        lines = [f"INPUT {name}: {kind};" for name, kind in self.shown.signals.items()]
-        lines += [f"DEFINE {ref} := {written(node)};" for ref, node in self.shown.nodes.items() if ref in below]
-        lines += [f"{sections[ref]} {ref};" for ref in batch]
-        return "\n".join(lines) + "\n"
-
-    def sections(self) -> dict[str, str]:
-        """Which engine knows of a part: that of the past where it looks back."""
-        past: set[str] = set()
-        for ref in self.parts.refs:
-            node = self.parts.node(ref)
-            if node and (node.op == "S" or past.intersection(node.operands())):
-                past.add(ref)
-        return {ref: "PTSPEC" if ref in past else "FTSPEC" for ref in self.parts.refs}
+    def __init__(self, parts: Parts, program: Program, folder: Path) -> None:
+        self.parts, self.trace, self.path = parts, Path(folder, "parts.csv"), Path(folder, "parts.obs")
+        part = "ft" if parts.told.section == "FTSPEC" else "pt"
+        places = {parts.shown.refs[place]: place for place in program.instructions if place[0] == part}
+        stem = fresh_stem([output.name for output in program.outputs])
+        self.names = {f"{stem}{k}": ref for k, ref in enumerate(parts.refs)}
+        self.path.write_bytes(program.with_outputs({name: places[ref] for name, ref in self.names.items()}))
 
     def over(self, rows: Iterable[bytes], origin: int, spans: dict[str, tuple[int, int]]) -> Verdicts:
         """The verdicts over rows, of which the first one is that of the time `origin`."""
-        trace = Path(self.folder, "parts-rows.csv")
-        with open(trace, "wb") as file:
+        with open(self.trace, "wb") as file:
             file.writelines(rows)
         found = {ref: Part(low, high, bytearray([UNKNOWN]) * (high - low + 1), origin) for ref, (low, high) in spans.items()}
-        for batch, out in self.batches:
-            self.listen([program("r2u2"), "--runs", str(out), str(trace)], [found[ref] for ref in batch], origin)
+        self.listen({name: found[ref] for name, ref in self.names.items()}, origin)
         return Verdicts(self.parts, found)
 
-    def listen(self, words: list[str], parts: list[Part], origin: int) -> None:
+    def listen(self, parts: dict[str, Part], origin: int) -> None:
         """Takes the lines of a run until all that was asked for is there, or the run ends."""
         missing = len(parts)
+        words = [program("r2u2"), "--runs", str(self.path), str(self.trace)]
         with subprocess.Popen(words, stdout=subprocess.PIPE, stderr=subprocess.PIPE) as run:
             assert run.stdout and run.stderr
             for name, first, last, word in Reader("r2u2").stretches(run.stdout):
-                part = parts[int(name)]
+                part = parts.get(name)
+                if part is None:
+                    continue
                 part.fill(first + origin, last + origin, WORDS[word])
                 missing -= first + origin <= part.high <= last + origin
                 if not missing:
@@ -179,9 +143,9 @@ class PartWatch:
             raise Trouble(text or f"r2u2 ended with status {run.returncode}")
 
 
-def written(node: Node) -> str:
-    """A definition as the language writes it."""
-    if not node.right:
-        return node.op + node.left
-    window = f"[{node.low},{node.high}]" if node.op in "US" else ""
-    return f"{node.left} {node.op}{window} {node.right}"
+def fresh_stem(names: Sequence[str]) -> str:
+    """A beginning that no name has."""
+    stem = "p"
+    while any(name.startswith(stem) for name in names):
+        stem += "_"
+    return stem

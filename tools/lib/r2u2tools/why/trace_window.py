@@ -6,7 +6,7 @@ from dataclasses import dataclass, field
 from typing import IO, Iterable, Iterator, Optional, Sequence
 
 from r2u2tools.common.cli import Trouble, opened
-from r2u2tools.common.specs import Signal
+from r2u2tools.common.program_file import Signal
 from r2u2tools.common.streams import lines_of
 from r2u2tools.common.traces import LONGEST, header_of, places_of, stamp_of
 
