@@ -1,4 +1,5 @@
-//! The Booleanizer: the integers and the Booleans of a program's instructions on one row of a trace.
+//! The Booleanizer: the integers and the Booleans of a program's instructions on one row of a
+//! trace.
 #![tactic(auto)]
 
 mod bz;

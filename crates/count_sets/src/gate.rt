@@ -1,6 +1,7 @@
 //! Gates of a network.
 
-/// A gate over numbered bodies. Bodies and gates count from 0; operands are numbers of earlier gates.
+/// A gate over numbered bodies. Bodies and gates count from 0; operands are numbers of earlier
+/// gates.
 #[derive(Clone, Copy)]
 pub enum Gate {
     Truth(bool),

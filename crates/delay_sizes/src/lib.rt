@@ -1,8 +1,9 @@
 //! The sizes of observer programs: the delays of future-time instructions, the verdicts that their
 //! queues hold, and the stretches of times that past-time instructions keep.
 //!
-//! Propagation delays and the lengths of shared queues follow Kempa and others (2020), where an instruction also
-//! counts among its own siblings, which makes room for a burst that one row releases.
+//! Propagation delays and the lengths of shared queues follow Kempa and others (2020), where an
+//! instruction also counts among its own siblings, which makes room for a burst that one row
+//! releases.
 #![tactic(auto)]
 
 pub mod boxes;

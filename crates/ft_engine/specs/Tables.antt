@@ -46,7 +46,7 @@ kleene_value (Until l r window) truth n table t = k_until window (slice_get (tab
 pub record IsTable (ops : List FtOp) (truth : Loads) (n : ℕ) (table : VerdictTable) : Type 0 where
   pub each : (i : ℕ) → i < length ops → IsLongestKnown (kleene_value (op_at ops i) truth n table) n (table i)
 
--- what the old table knows, the new one knows too
+-- each verdict of the old table is in the new one
 pub record Extends (old new : VerdictTable) : Type 0 where
   pub each : (i t : ℕ) (v : Bool) → slice_get (old i) t ≡ Some v → slice_get (new i) t ≡ Some v
 

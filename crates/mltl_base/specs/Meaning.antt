@@ -14,12 +14,12 @@ use Rattle.mltl_base.specs.Kleene.{some_below, every_below, some_in, every_in}
 abbrev pub within : Interval → ℕ → Bool
 within i d = nat_le i.lo d && nat_le d i.hi
 
--- p until q at time t, where p and q are truths by time: q at some time of the window, and p from the lower end of the
+-- p until q at time t, for truths p and q by time: q at some time of the window, and p from the lower end of the
 -- window up to then
 abbrev pub until_at : Interval → (ℕ → Bool) → (ℕ → Bool) → ℕ → Bool
 until_at i p q t = some_in i.lo (suc i.hi) (λ k. q (t + k) && every_in i.lo k (λ j. p (t + j)))
 
--- p since q at time t, where p and q are truths by time: q at some time back in the window, and p after it up to now
+-- p since q at time t, for truths p and q by time: q at some time back in the window, and p after it up to now
 abbrev pub since_at : Interval → (ℕ → Bool) → (ℕ → Bool) → ℕ → Bool
 since_at i p q t = some_below (suc t) (λ m. within i (t - m) && (q m && every_in (suc m) (suc t) p))
 

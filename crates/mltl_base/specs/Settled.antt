@@ -16,8 +16,8 @@ IsPrefix {X} xs ys = (zs : List X) × (ys ≡ xs ++ zs)
 abbrev pub Settled : List Row → Formula → ℕ → Bool → Type 0
 Settled rows p t v = (more : List Row) → t + wpd p < length (rows ++ more) → sat (rows ++ more) p t ≡ v
 
--- each such list whose further rows are of the class gives the formula the value v at t; a class: the rows that fit a
--- program
+-- each list of rows that begins with these, goes on with rows of the class (rows that fit a program, say), and is long
+-- enough to decide the formula at t, gives it the value v at t
 abbrev pub SettledAmong : (List Row → Type 0) → List Row → Formula → ℕ → Bool → Type 0
 SettledAmong IsIn rows p t v =
     (more : List Row) → IsIn more → t + wpd p < length (rows ++ more) → sat (rows ++ more) p t ≡ v

@@ -13,7 +13,7 @@ use Rattle.mltl_base.specs.Kleene.{every_below, k_not, k_and, k_or, k_implies, k
 use Rattle.mltl_base.specs.Kleene.{k_every_in}
 use Rattle.mltl_base.specs.Meaning.{within}
 
--- what is known: the value at each time, or `None`
+-- the value at each time, or `None` if it is unknown
 abbrev pub Known : Type 0
 Known = ℕ → Option Bool
 

@@ -1,8 +1,8 @@
 //! The types, the limits and the definitions of meaning that all crates of the product share.
 //!
-//! A requirement is a formula of Mission-time Linear Temporal Logic. The future operators mean what they mean in Li,
-//! Vardi and Rozier (2019); propagation delays follow Kempa and others (2020). The definitions are in this crate's
-//! `specs/`, and contracts of all crates cite them.
+//! A requirement is a formula of Mission-time Linear Temporal Logic. The future operators mean what
+//! they mean in Li, Vardi and Rozier (2019); propagation delays follow Kempa and others (2020). The
+//! definitions are in this crate's `specs/`, and contracts of all crates cite them.
 #![tactic(auto)]
 
 pub mod blanks;

@@ -40,7 +40,7 @@ pub struct Graph {
     pub outs: List<Out>,
 }
 
-/// A signal that a program stores: its name, whether it is Boolean, and its column.
+/// A signal that a program stores: its name, its kind, and its column.
 #[derive(Drop)]
 pub struct StoredSignal {
     pub name: Name,
@@ -63,7 +63,8 @@ pub struct Program {
     pub signals: List<StoredSignal>,
 }
 
-/// The columns of the signals in a row: the number of columns, and the column of each signal in order of declaration.
+/// The columns of the signals in a row: the number of columns, and the column of each signal in
+/// order of declaration.
 #[derive(Drop)]
 pub struct Columns {
     pub width: u32,

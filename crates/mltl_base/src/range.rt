@@ -199,7 +199,7 @@ fn times(x: i64, y: i64) -> i128
     i128::from(x) * i128::from(y)
 }
 
-/// Divides. The quotient has 64 bits, except for the least number over -1.
+/// Returns the quotient, which has 64 bits except for the least number over -1.
 fn over(x: i64, y: i64) -> i128
     requires { y ≢ pos 0 }
     ensures { result ≡ int_div x y }

@@ -39,7 +39,8 @@ pub enum Style {
     Runs,
 }
 
-/// The word of output `out` at `time`, counted in rows from 0; with `Runs` also at the times since the report before.
+/// The word of output `out` at `time`, counted in rows from 0; with `Runs` also at the times since
+/// the report before.
 #[derive(Clone, Copy, PartialEq, Eq, Debug)]
 pub struct Report {
     pub out: u32,

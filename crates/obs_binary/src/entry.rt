@@ -74,7 +74,8 @@ pub(crate) fn first_other(offset: u64, musts: &[u8], bytes: &[u8]) -> Option<u64
     None
 }
 
-/// Reads the entry at the start of the rest of a file of `size` bytes, and returns the bytes after it.
+/// Reads the entry at the start of the rest of a file of `size` bytes, and returns the bytes after
+/// it.
 #[tactic(auto, unfolding(crate::specs::Reading::entry_at))]
 fn read_entry<X: Entry>(size: usize, rest: &[u8]) -> Result<(X, &[u8]), ReadFault>
     requires enough { X.LEN ≤ length rest.now }
@@ -94,7 +95,8 @@ fn read_entry<X: Entry>(size: usize, rest: &[u8]) -> Result<(X, &[u8]), ReadFaul
     }
 }
 
-/// Reads `count` entries at the start of the rest of a file of `size` bytes, and returns the bytes after them.
+/// Reads `count` entries at the start of the rest of a file of `size` bytes, and returns the bytes
+/// after them.
 pub(crate) fn entries<X: Entry>(
     alloc: Global,
     count: u32,

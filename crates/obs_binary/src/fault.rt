@@ -5,7 +5,8 @@ ghost use Rattle.obs_binary.specs.declared.fault.ReadFault.TheVariants.{Memory};
 
 use std::alloc::AllocError;
 
-/// The first fault of bytes that are no observer program. Places count from 0 at the start of the bytes.
+/// The first fault of bytes that are no observer program. Places count from 0 at the start of the
+/// bytes.
 #[derive(Clone, Copy)]
 pub enum ReadFault {
     /// The bytes are fewer than a header, or fewer than the header says.

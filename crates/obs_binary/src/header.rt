@@ -67,7 +67,8 @@ impl Header {
         }
     }
 
-    /// Returns the header at the start of the bytes of a file, or the first fault in it or in the length of the file.
+    /// Returns the header at the start of the bytes of a file, or the first fault in it or in the
+    /// length of the file.
     #[tactic(auto, unfolding(crate::specs::Reading::header_at))]
     pub(crate) fn read(bytes: &[u8]) -> Result<Header, ReadFault>
         ensures read { GivesReading (λ header. header) result (header_at bytes.now) }

@@ -1,4 +1,5 @@
-//! An observer program for people: as the text of a specification, and as a table of its instructions.
+//! An observer program for people: as the text of a specification, and as a table of its
+//! instructions.
 #![tactic(auto)]
 
 mod fault;

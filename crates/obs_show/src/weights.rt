@@ -1,7 +1,7 @@
 //! The weight of a program, in one pass over its instructions.
 //!
-//! An instruction weighs one more than its operands together, so a weight can double from each instruction to the
-//! next. Weights above the limit are returned as one past it, and never wrap.
+//! An instruction weighs one more than its operands together, so a weight can double from each
+//! instruction to the next. Weights above the limit are returned as one past it, and never wrap.
 
 ghost use Rattle.std.specs.Prelude.{◌≡◌, ◌<◌, ◌+◌, IfOk, length, ℕ};
 ghost use Rattle.mltl_base.specs.declared.interval.Engine.TheVariants.{Ft, Pt};

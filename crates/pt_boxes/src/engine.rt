@@ -10,7 +10,8 @@ use obs_verify::Checked;
 use std::alloc::{AllocError, Global};
 use std::sync::ledger::Ledger;
 
-/// The truths of a program's past-time instructions at the last row, and the boxes of each Since in one slab.
+/// The truths of a program's past-time instructions at the last row, and the boxes of each Since in
+/// one slab.
 #[derive(Drop)]
 pub struct Pt {
     nodes: Fixed<Node>,

@@ -1,6 +1,7 @@
 //! The past-time engine: the values of all past-time instructions of a program, row by row.
 //!
-//! A Since keeps its past as boxes: stretches of times at which it will hold if its left operand stays true.
+//! A Since keeps its past as boxes: stretches of times at which it will hold if its left operand
+//! stays true.
 #![tactic(auto)]
 
 mod boxes;

@@ -30,8 +30,9 @@ impl Slot {
 
 /// The verdicts of one operator by time, over slots that the caller lends to each call.
 ///
-/// It has verdicts for the times from its low time to its frontier - 1. The newest run is in the ring itself, so that
-/// a write of the last verdict and a read of the newest run touch no slot. The slots hold the runs before it.
+/// It has verdicts for the times from its low time to its frontier - 1. The newest run is in the
+/// ring itself, so that a write of the last verdict and a read of the newest run touch no slot. The
+/// slots hold the runs before it.
 #[derive(Drop)]
 pub struct Ring {
     frontier: u64,
@@ -250,8 +251,9 @@ impl Ring {
         self.used -= 1;
     }
 
-    /// Returns the run before the newest one that holds time `from`, found by halving the candidates. It stays out of line, so
-    /// that a read of the newest run takes a few instructions where it is called.
+    /// Returns the run before the newest one that holds time `from`, found by halving the
+    /// candidates. It stays out of line, so that a read of the newest run takes only a few
+    /// instructions.
     #[inline(never)]
     fn run_at(&self, slots: &[Slot], from: u64, near: &mut usize) -> Slot
         requires belongs { Belongs self.now slots.now }

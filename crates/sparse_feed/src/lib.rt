@@ -1,4 +1,5 @@
-//! Stamps: a line of a stamped trace begins with `@`, the time from which its row holds, and a comma.
+//! Stamps: a line of a stamped trace begins with `@`, the time from which its row holds, and a
+//! comma.
 #![tactic(auto)]
 
 mod stamp;

@@ -89,7 +89,7 @@ abbrev pub attach_fails : Held → Place → List ℕ → Bool
 attach_fails host place name =
     is_listed host place || not (has_room host.tape (length name)) || is_missing host place name
 
--- what an attach returns: it failed, or the place is ready
+-- the result of an attach: it failed, or the place is ready
 abbrev pub attach_answer : Held → Place → List ℕ → attached.Attached
 attach_answer host place name =
     if attach_fails host place name then attached.TheVariants.Failed else attached.TheVariants.Ready
@@ -120,7 +120,7 @@ read_fails host place room =
 abbrev pub gives : ℕ → got.Got
 gives count = if count == 0 then got.TheVariants.End else got.TheVariants.Bytes count
 
--- what a read returns: it failed, or reached the end, or read this many bytes
+-- the result of a read: it failed, or reached the end, or read this many bytes
 abbrev pub read_answer : Held → Place → ℕ → got.Got
 read_answer host place room =
     if read_fails host place room then got.TheVariants.Failed else gives (length (read_bytes host place room))
@@ -138,7 +138,7 @@ read_into host place into =
     if read_fails host place (length into) then into
     else read_bytes host place (length into) ++ drop (length (read_bytes host place (length into))) into
 
--- a read answers, leaves the host and fills the slice as the files, the room and the listed calls say
+-- the result of a read, the host and the slice after it follow from the files, the room and the listed calls
 pub record Reads (answer : got.Got) (before now : Held) (place : Place) (slice filled : List ℕ) : Type 0 where
   pub answers : answer ≡ read_answer before place (length slice)
   pub after : now ≡ after_read before place (length slice)
@@ -150,7 +150,7 @@ pub record Reads (answer : got.Got) (before now : Held) (place : Place) (slice f
 abbrev pub write_fails : Held → Place → List ℕ → Bool
 write_fails host place piece = is_listed host place || not (has_room host.tape (length piece))
 
--- what a write returns: it failed, or the whole piece is taken
+-- the result of a write: it failed, or the whole piece is taken
 abbrev pub write_answer : Held → Place → List ℕ → put.Put
 write_answer host place piece =
     if write_fails host place piece then put.TheVariants.Failed else put.TheVariants.Wrote (length piece)

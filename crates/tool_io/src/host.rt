@@ -55,10 +55,10 @@ pub enum Put {
 ///
 /// `faults` counts the failed calls of each place; a count never falls, and stays at 2^64 - 1 once
 /// it is there. `log`, if the host shows it, is the list of its events. `left`, if it is shown, is
-/// what a place has still to read. A call that fails raises the count of its place by one, and only
-/// a failed attach may log an event, `Missed`; every other call leaves all counts, and logs one
-/// event. So the calls of a place are its faults and its events other than `Missed` together. `Out`
-/// and `Err` are the standard streams until they are attached elsewhere.
+/// all that a place has still to read. A call that fails raises the count of its place by one, and
+/// only a failed attach may log an event, `Missed`; every other call leaves all counts, and logs
+/// one event. So the calls of a place are its faults and its events other than `Missed` together.
+/// `Out` and `Err` are the standard streams until they are attached elsewhere.
 pub trait Host {
     ghost faults: { Self → Place → ℕ };
 

@@ -27,6 +27,7 @@ pub enum Line {
 }
 
 /// A stream of bytes that is cut at its newlines, with one buffer of 65,536 bytes.
+///
 /// It allocates only in `make`, and reads only if the buffer holds no whole line.
 #[derive(Drop)]
 pub struct LineCut {

@@ -20,8 +20,8 @@ pub struct Listed {
     pub call: u64,
 }
 
-/// A host in memory: files by name, a log, counts of calls and of faults for each place, and a list of calls that
-/// are to fail.
+/// A host in memory: files by name, a log, counts of calls and of faults for each place, and a list
+/// of calls that are to fail.
 ///
 /// A call fails exactly if it is listed, attaches a place that is read to a name without a file,
 /// reads a place that isn't attached, or needs more events or bytes than there is room for. Each
@@ -158,7 +158,7 @@ impl MemHost {
         }
     }
 
-    /// Attaches, as `attach` of the host.
+    /// Attaches a place as the host's `attach` does.
     fn attach_name(&mut self, place: Place, name: &str) -> Attached
         ensures answer { result ≡ attach_answer self.old place name.now }
         ensures after { self.new ≡ after_attach self.old place name.now }
@@ -176,7 +176,7 @@ impl MemHost {
         Attached::Ready
     }
 
-    /// Reads, as `read` of the host, into a slice that isn't empty.
+    /// Reads as the host's `read` does, into a slice that isn't empty.
     fn read_piece(&mut self, place: Place, into: &mut [u8]) -> Got
         requires { 0 < length into.old }
         ensures reads { Reads result self.old self.new place into.old into.new }
@@ -204,7 +204,7 @@ impl MemHost {
         }
     }
 
-    /// Writes, as `write` of the host.
+    /// Writes as the host's `write` does.
     fn write_piece(&mut self, place: Place, piece: &[u8]) -> Put
         ensures answer { result ≡ write_answer self.old place piece.now }
         ensures after { self.new ≡ after_write self.old place piece.now }

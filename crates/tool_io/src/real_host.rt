@@ -23,10 +23,11 @@ enum Stream {
     Ended,
 }
 
-/// A host over the system's files and standard streams. The name `-` is the place's standard stream.
+/// A host over the system's files and standard streams. The name `-` is the place's standard
+/// stream.
 ///
-/// A file that was read to its end is closed, so that its descriptor isn't taken for the standard input of a program that
-/// was started without one.
+/// A file that was read to its end is closed, so that its descriptor isn't taken for the standard
+/// input of a program that was started without one.
 ///
 /// It counts a fault at each error of the system, at a write that takes nothing, and at a read of a
 /// place that isn't attached. It shows neither a log nor the bytes left.

@@ -11,7 +11,7 @@ ghost use Rattle.mltl_base.specs.declared.program.Program.{Program as Observer};
 ghost use Rattle.mltl_base.specs.declared.report.Style.{Style as Form};
 ghost use Rattle.std.specs.Prelude.{◌≡◌, List, Decides, All, map};
 
-/// The tests by which subformulas and expressions are shared decide exactly whether two are equal.
+/// The tests that share subformulas and expressions are true exactly if two are equal.
 #[tactic(auto, using(crate::proofs::Sameness::same_decides, crate::proofs::Sameness::same_expression_decides))]
 pub fn sharing_tests_decide()
     ensures formulas { (p q : Core) → Decides (same p q) (p ≡ q) }
@@ -28,7 +28,8 @@ pub fn instructions_unfold()
         past_formulas (atoms (bz_list outs)) (pt_list outs) ≡ subformulas Past outs }
 {}
 
-/// A program with the lists of a specification has its outputs, over their core forms, and its reports.
+/// A program with the lists of a specification has its outputs, over their core forms, and its
+/// reports.
 #[tactic(auto, using(crate::proofs::Graphs::program_unfolds, crate::proofs::Graphs::program_names, crate::proofs::Graphs::program_tells))]
 pub fn program_means_its_specification()
     ensures outputs { (program : Observer) (outs : List Asked) → HasListsOf outs program →

@@ -9,7 +9,7 @@ ghost use Rattle.mltl_base.specs.Verdicts.{known_by_time, verdicts};
 ghost use Rattle.mltl_base.specs.declared.program.Program.{Program as Observer};
 ghost use Rattle.std.specs.Prelude.{◌≡◌, ℕ, ◌+◌, ◌-◌, ◌<◌, ◌≤◌, Bool, true, Some, List, ◌++◌, length, slice_get, All};
 
-/// The known verdicts of rows begin those of more rows.
+/// The known verdicts of rows begin the known verdicts of more rows.
 #[tactic(auto, using(crate::proofs::Prefixes::verdicts_begin))]
 pub fn verdicts_stay()
     ensures begins { (rows more : List Row) (p : Formula) →
@@ -45,7 +45,8 @@ pub fn verdicts_are_known_by_time()
         slice_get (verdicts rows p) t ≡ known_by_time rows p t }
 {}
 
-/// Each time below the number of rows less the worst delay is known, with the meaning of the formula.
+/// Each time below the number of rows less the worst delay is known, with the meaning of the
+/// formula.
 #[tactic(auto, using(crate::proofs::Settling::verdict_known))]
 pub fn verdicts_come_in_time()
     ensures known { (rows : List Row) (p : Formula) (t : ℕ) →

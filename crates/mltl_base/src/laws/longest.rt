@@ -7,8 +7,9 @@ ghost use Rattle.mltl_base.specs.Settled.{IsFuture, IsOrdered};
 ghost use Rattle.mltl_base.specs.Verdicts.{IsLongestKnown, kleene, known_front, verdicts};
 ghost use Rattle.std.specs.Prelude.{◌≡◌, ℕ, ◌<◌, Bool, Option, None, List, length};
 
-/// The known verdicts are the longest list of times, from 0 on, at which the Kleene value of the formula is known, and
-/// at most one a row. For a formula of the future the first missing time is unknown however many rows there are.
+/// The known verdicts are the longest list of times, from 0 on, at which the Kleene value of the
+/// formula is known, and at most one a row. For a formula of the future the first missing time is
+/// unknown however many rows there are.
 #[tactic(auto, using(crate::proofs::Longest::verdicts_longest, crate::proofs::Longest::future_ends_unknown))]
 pub fn verdicts_are_longest()
     ensures longest { (rows : List Row) (p : Formula) →
@@ -17,7 +18,8 @@ pub fn verdicts_are_longest()
         IsFuture p → IsOrdered p → kleene rows p (length (verdicts rows p)) ≡ None }
 {}
 
-/// The known words of a contract are the longest list of times, from 0 on, at which its status is known.
+/// The known words of a contract are the longest list of times, from 0 on, at which its status is
+/// known.
 #[tactic(auto, using(crate::proofs::Words::contract_longest))]
 pub fn contract_words_are_longest()
     ensures longest { (rows : List Row) (p q : Formula) →

@@ -10,8 +10,8 @@ ghost use Rattle.mltl_base.specs.declared.report.Word.{Word as Told};
 ghost use Rattle.std.specs.List.{range_with_len};
 ghost use Rattle.std.specs.Prelude.{◌≡◌, ℕ, ◌+◌, ◌<◌, Some, List, [], ◌∷◌, ◌++◌, length, map, drop, slice_get};
 
-/// The known words of rows begin those of more rows, are settled, are of times of the rows, and come within the delay of
-/// the output.
+/// The known words of rows begin the known words of more rows, are settled, belong to times of
+/// the rows, and come within the delay of the output.
 #[tactic(auto, using(crate::proofs::Words::words_begin, crate::proofs::Words::word_settled, crate::proofs::Words::word_within, crate::proofs::Words::word_known))]
 pub fn words_are_settled()
     ensures begins { (rows more : List Row) (o : Output) →
@@ -33,8 +33,8 @@ pub fn reports_tell_known_words()
         slice_get outs k ≡ Some o → IsRising k 0 (reports style outs rows) }
 {}
 
-/// With a report for each time, the reports of output k have the times 0, 1, 2 and so on, one for each of its known words,
-/// and these words.
+/// With a report for each time, the reports of output k have the times 0, 1, 2 and so on, one for
+/// each of its known words, and these words.
 #[tactic(auto, using(crate::proofs::Neighbours::times_count_up, crate::proofs::Neighbours::words_one_by_one))]
 pub fn reports_count_up()
     ensures times { (k : ℕ) (outs : List Output) (rows : List Row) (o : Output) →
@@ -46,8 +46,8 @@ pub fn reports_count_up()
         map (λ (r : Line). r.word) (reports_of k (reports OneEach outs rows)) ≡ words rows o }
 {}
 
-/// With a report for each stretch, no stretch that a row brings could be longer: neighbours among its reports of output k
-/// differ in their word.
+/// With a report for each stretch, no stretch that a row brings could be longer: neighbours among
+/// its reports of output k differ in their word.
 #[tactic(auto, using(crate::proofs::Neighbours::row_runs_differ))]
 pub fn runs_are_longest()
     ensures distinct { (k : ℕ) (outs : List Output) (rows : List Row) (r : Row) (o : Output) →
