@@ -84,9 +84,10 @@ void r2u2_arena(void *memory, size_t count);
 size_t r2u2_arena_used(void);
 size_t r2u2_arena_most(void);
 
-/* Returns how many bytes of an array suffice to open this program by r2u2_open or r2u2_open_checked in a pool in which no
- * monitor is open, and to keep it open. Returns 0 for bytes whose header isn't that of a program, and if the number is past
- * SIZE_MAX. It goes over the bytes once and allocates nothing. Tested, not proved; r2u2_pool_most returns what was needed. */
+/* Returns how many bytes of an array suffice for r2u2_bytes of this program, and to open it by r2u2_open or r2u2_open_checked
+ * and keep it open, in a pool in which no other monitor is. Returns 0 for bytes whose header isn't that of a program, and if
+ * the number is past SIZE_MAX. It goes over the bytes once and allocates nothing. Tested, not proved; r2u2_pool_most returns
+ * what was needed. */
 size_t r2u2_open_bytes(const uint8_t *program, size_t count);
 
 /* Returns the same for r2u2_open_under with this header. */

@@ -6,6 +6,8 @@ import re
 import unittest
 from unittest import mock
 
+from r2u2tools.common import verdict_lines
+from r2u2tools.generate import handlers
 from support import ROOT
 
 HEADER = (ROOT / "embed/include/r2u2.h").read_text(encoding="utf-8")
@@ -55,6 +57,10 @@ class Words(unittest.TestCase):
         numbers = dict(re.findall(r"^    (\w+) = (\d),", re.search(r"enum Word \{(.*?)\n\}", RUST, re.S)[1], re.M))
         printed = dict(re.findall(r'Word::(\w+) => "(\w+)",', RUST))
         self.assertEqual({int(numbers[name]): text for name, text in printed.items()}, dict(enumerate(texts("r2u2_word_text"))))
+
+    def test_tools(self):
+        self.assertEqual(set(verdict_lines.WORDS), set(texts("r2u2_word_text")))
+        self.assertEqual({"F", "T", *handlers.CONTRACT}, set(texts("r2u2_word_text")))
 
     def test_no_other_list_of_words(self):
         """C and C++ take the texts of the header."""
