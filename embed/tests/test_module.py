@@ -15,6 +15,7 @@ from decimal import Decimal
 from fractions import Fraction
 from pathlib import Path
 from types import SimpleNamespace
+from unittest import mock
 
 ROOT = Path(__file__).resolve().parents[2]
 sys.path.insert(0, str(ROOT / "embed/python"))
@@ -134,8 +135,18 @@ class Sequences(Module):
             if numpy:
                 self.assertEqual(len(monitor.row_many(numpy.empty((4, 0), dtype="int64"))), 4)
 
-    def test_a_library_that_takes_no_rows(self):
-        """Whatever the library returns, row_many ends."""
+    def test_rows_of_many_reports(self):
+        """However many reports a row may bring, there is room for some of them."""
+        with mock.patch.multiple(r2u2, ROOM=1, MOST_ROOM=1), r2u2.Monitor(GRANT.read_bytes()) as monitor:
+            self.assertEqual(len(monitor._room), 2)
+            for rows in (ROWS, array("q", sum(ROWS, []))):
+                monitor.reset()
+                self.assertEqual([report.word for report in monitor.row_many(rows)], WORDS)
+                error = self.assert_raises(r2u2.Error, "column 2", monitor.row_many, [[0, 1], [0, 2]])
+                self.assertEqual((error.taken, len(error.reports)), (1, 1))
+
+    def test_a_library_that_lies(self):
+        """Whatever the library returns, row_many and all_reports end."""
         call = self.monitor._call
         for rows in (0, 7, 2**63):
             def lie(it, runs, numbers, count, room, size, batch, fault, rows=rows):
@@ -143,6 +154,8 @@ class Sequences(Module):
                 return 0
             self.monitor._call = SimpleNamespace(r2u2_row_many=lie)
             self.assert_raises(RuntimeError, f"took {rows} of 6 rows", self.monitor.row_many, ROWS)
+        self.monitor._call = SimpleNamespace(r2u2_next_many=lambda *_: 0)
+        self.assert_raises(RuntimeError, "more than 4 reports of a row", self.monitor.all_reports)
         self.monitor._call = call
 
     def test_codes(self):

@@ -23,8 +23,9 @@ from typing import Any, NamedTuple, Optional
 WORDS = ("F", "T", "inactive", "invalid", "verified")
 DIGEST_BYTES = 32
 NAME_BYTES = 65
-# How many reports of rows there is room for, beyond the most that one row brings.
+# How many reports of rows there is room for, beyond the most that one row brings, if these are at most MOST_ROOM.
 ROOM = 1024
+MOST_ROOM = 65536
 # A report as the library writes it.
 REPORT = struct.Struct("=QII")
 
@@ -332,7 +333,7 @@ class Monitor:
         self.delays: list[int] = [self._call.r2u2_delay(self._it, k) for k in outputs]
         self.steps: int = self._call.r2u2_steps(self._it)
         self.most_reports: int = self._call.r2u2_most_reports(self._it)
-        self._room, self._batch = (_Report * (self.most_reports + ROOM))(), _Batch()
+        self._room, self._batch = (_Report * (min(self.most_reports, MOST_ROOM) + ROOM))(), _Batch()
         self.contracts = [self._call.r2u2_output_kind(self._it, k) == OutputKind.CONTRACT for k in outputs]
         self.signals = [self._signal(k) for k in range(self._call.r2u2_signals(self._it))]
 
@@ -375,7 +376,7 @@ class Monitor:
     def row_many(self, rows: Any, runs: bool = False) -> "list[Report]":
         """Takes rows, and returns their reports, by as few calls of the library as it can. The rows are an iterable of rows, a
         buffer of two dimensions, such as an array of numpy with a row of numbers in each row, or one of one dimension, such as
-        array("q"), with rows one after another.
+        array("q"), with rows one after another. If one row may bring more than 65,536 reports each row is taken by a call.
 
         Raises ValueError, before any row is taken, if a buffer has other dimensions or another number of columns than the
         program, and Error at the first row that isn't taken."""
@@ -389,8 +390,10 @@ class Monitor:
         if not self.width:
             return self._listed_rows([[]] * count, runs)
         try:
-            integers = _integers(view)
+            integers = None if self.most_reports > MOST_ROOM else _integers(view)
         except OverflowError:
+            integers = None
+        if integers is None:
             numbers = _listed(view)
             return self._one_by_one([numbers[k * self.width : (k + 1) * self.width] for k in range(count)], runs)
         return self._take(integers, count * self.width, runs)
@@ -409,7 +412,7 @@ class Monitor:
         return shape[0] // self.width if self.width else 0
 
     def _listed_rows(self, rows: "list[Any]", runs: bool) -> "list[Report]":
-        if not self.width or any(len(row) != self.width for row in rows):
+        if not self.width or self.most_reports > MOST_ROOM or any(len(row) != self.width for row in rows):
             return self._one_by_one(rows, runs)
         try:
             numbers = _array([number for row in rows for number in row])
@@ -456,12 +459,17 @@ class Monitor:
             raise Error(Code.NOT_OPEN)
 
     def all_reports(self, runs: bool = False) -> "list[Report]":
-        """Returns the reports that `reports` yields, by one call of the library."""
-        count = ctypes.c_size_t()
-        code = self._call.r2u2_next_many(self._it, int(runs), self._room, len(self._room), count)
-        if code:
-            raise Error(Code(code))
-        return self._stored(count.value)
+        """Returns the reports that `reports` yields, by as few calls of the library as it can."""
+        found: list[Report] = []
+        count = ctypes.c_size_t(len(self._room))
+        while count.value == len(self._room):
+            code = self._call.r2u2_next_many(self._it, int(runs), self._room, len(self._room), count)
+            if code:
+                raise Error(Code(code))
+            found += self._stored(count.value)
+            if len(found) > self.most_reports:
+                raise RuntimeError(f"the library returns more than {self.most_reports} reports of a row")
+        return found
 
     def watch(self, rows: Iterable[Any], runs: bool = False) -> Iterator[Report]:
         """Takes rows one by one, and yields the reports of each before it takes the next."""
