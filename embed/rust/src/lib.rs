@@ -14,7 +14,7 @@
 //! # }
 //! ```
 #![no_std]
-#![warn(missing_docs)]
+#![warn(missing_docs, missing_debug_implementations)]
 
 #[cfg(feature = "arena")]
 pub mod arena;
@@ -513,6 +513,13 @@ impl Monitor {
     }
 }
 
+impl fmt::Debug for Monitor {
+    fn fmt(&self, out: &mut fmt::Formatter<'_>) -> fmt::Result {
+        let (width, outputs, rows) = (self.width(), self.outputs(), self.rows());
+        out.debug_struct("Monitor").field("width", &width).field("outputs", &outputs).field("rows", &rows).finish()
+    }
+}
+
 // SAFETY: the library proves `Send` of its struct, and no call is made from two threads at once.
 unsafe impl Send for Monitor {}
 
@@ -531,6 +538,8 @@ fn allocating<T>(call: impl FnOnce() -> T) -> T {
 }
 
 /// The reports of the rows so far.
+#[derive(Debug)]
+#[must_use = "the next row isn't taken before these reports are read"]
 pub struct Reports<'a> {
     monitor: &'a mut Monitor,
     style: Style,
@@ -538,7 +547,6 @@ pub struct Reports<'a> {
 
 impl Reports<'_> {
     /// Returns the same reports in this style.
-    #[must_use]
     pub fn by(self, style: Style) -> Self {
         Reports { style, ..self }
     }

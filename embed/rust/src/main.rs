@@ -18,7 +18,7 @@ fn main() -> Result<(), Box<dyn std::error::Error>> {
     assert!(monitor.rows() == 0 && monitor.delay(0) == Some(3) && monitor.delay(1).is_none() && monitor.steps() > 0 && r2u2::version() > 0);
     assert!(monitor.most_reports() == 4 && monitor.is_contract(0) == Some(false));
     assert_eq!(monitor.row(&[0, 2]).err(), Some(Error::NotARow { column: 1 }));
-    monitor.row(&ROWS[1])?;
+    let _ = monitor.row(&ROWS[1])?;
     monitor.reset();
     assert!(monitor.rows() == 0 && monitor.reports(Style::Each).next().is_none());
     for row in ROWS {

@@ -39,11 +39,11 @@ fn reports_that_are_left_keep_the_next_row_out() {
 
 #[test]
 fn faults_have_their_place() {
-    let error = Monitor::open(&program()[1..]).err().expect("a fault");
+    let error = Monitor::open(&program()[1..]).expect_err("a fault");
     assert_eq!(error.to_string(), "magic");
     let mut monitor = Monitor::open(&program()).expect("a program");
     assert_eq!(monitor.row(&[0]).err(), Some(Error::NotARow { column: 1 }));
-    assert_eq!(monitor.rows(), 0);
+    assert_eq!(format!("{monitor:?}"), "Monitor { width: 2, outputs: 1, rows: 0 }");
 }
 
 #[test]
