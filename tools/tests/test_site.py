@@ -141,6 +141,24 @@ class Site(unittest.TestCase):
                     lost.append(f"{page.relative_to(self.site)}: {link}")
         self.assertEqual(lost, [])
 
+    def test_bars(self):
+        """A bar in a table's code is shown as it is written, and splits no cell."""
+        texts = {it: it.read_text(encoding="utf-8") for it in self.site.rglob("*.html")}
+        self.assertEqual([it.name for it, text in texts.items() if "\\|" in text], [])
+        self.assertIn("<code>mode == 2 -&gt; O[1,1] (mode == 1 || mode == 2)</code>", texts[self.site / "docs/reference/patterns.html"])
+
+    def test_colours(self):
+        """Specifications have colours."""
+        text = (self.site / "index.html").read_text(encoding="utf-8")
+        self.assertIn('<span class="k">FTSPEC</span>', text)
+        self.assertIn('<span class="kt">bool</span>', text)
+
+    def test_menu(self):
+        """Measuring is a page of its own, and not an example."""
+        text = (self.site / "index.html").read_text(encoding="utf-8")
+        examples = text[text.index("Examples") :]
+        self.assertLess(examples.index("</nav>"), examples.index("bench/index.html"))
+
     def test_narrow(self):
         """No page scrolls sideways on a screen of 390 pixels."""
         browser = self.opened()
