@@ -14,7 +14,7 @@ _r2u2_options() {
         r2u2-timeline) echo --html --trace --spec --all-columns --changing --from --to --unit --rate --ticks --title -o --help ;;
         r2u2-trace) echo --spec --columns --signals --names --rename --scale --map --round --hex --missing --within --time --rate \
             --time-unit --start --snap --stamps --sort --dedupe --hold --delimiter --decimal-comma --skip --comment --format --long -o --help ;;
-        r2u2-verdicts) echo --json --junit --ignore --spec --log --exercised --fail-untried --fail-undecided --diff --merge --help ;;
+        r2u2-verdicts) echo --json --junit --tap --github --ignore --spec --log --exercised --fail-untried --fail-undecided --diff --merge --help ;;
         r2u2-watch) echo --timed --on-false --stop-at-first --keep --quiet --help ;;
         r2u2-why) echo --timed --begin --html --help ;;
     esac

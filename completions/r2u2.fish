@@ -116,6 +116,8 @@ complete -c r2u2-trace -l help -d 'Help'
 
 complete -c r2u2-verdicts -l json -d 'Print JSON'
 complete -c r2u2-verdicts -l junit -d 'Print tests'
+complete -c r2u2-verdicts -l tap -d 'Print tests as TAP'
+complete -c r2u2-verdicts -l github -d 'Print annotations of GitHub'
 complete -c r2u2-verdicts -l ignore -x -d 'An output that may have F or invalid'
 complete -c r2u2-verdicts -l spec -r -F -d 'Specification or program'
 complete -c r2u2-verdicts -l log -x -d 'What the log is called'

@@ -147,7 +147,7 @@ class Faults(Case):
         self.assertEqual(tool("check", *EXAMPLES), (0, "", ""))
 
     def test_empty_texts(self):
-        for text in ("", "\n", "-- nothing\n", "FTSPEC", ";", "x", "\x00", b"\xff\xfe"):
+        for text in ("", "\n", "-- nothing\n", "FTSPEC", ";", "x", "\x01", b"\xff\xfe"):
             path = self.file("spec.c2po", text)
             ran = subprocess.run([program("c2po"), "-o", "/dev/null", str(path)], stderr=subprocess.PIPE)
             status, out, errors = tool("check", path)
@@ -158,6 +158,7 @@ class Faults(Case):
         self.assertNotIn("\x1b", out)
 
     def test_words_and_files(self):
+        self.assertEqual(tool("check", self.file("utf16.c2po", "INPUT p: bool;".encode("utf-16")))[0], 2)
         for words in ([], ["--server", "x"], ["--diff", "x"], ["--format", "--write", "-"], ["nowhere.c2po"], [str(self.folder)]):
             status, out, errors = tool("check", *words)
             self.assertEqual((status, out), (2, ""))

@@ -45,6 +45,14 @@ class Pictures(Case):
         return [part.text for part in ElementTree.fromstring(self.made(*words, give=give)).iter(f"{SVG}text")]
 
 
+class FullDisk(Pictures):
+    def test_no_file_is_left_cut_off(self):
+        out = self.folder / "t.html"
+        line = 'ulimit -f 1; "$TOOLS/timeline" --html -o "$OUT" "$LINES"'
+        status, _, errors = shell(line, OUT=out, LINES=self.file("lines.txt", TICKS))
+        self.assertEqual((status, errors, list(self.folder.glob("*t*.h*"))), (2, f"timeline: cannot write {out}: File too large\n", []))
+
+
 class Squares(Pictures):
     def test_grant(self):
         texts = self.texts(*GRANT, give=TICKS)

@@ -16,12 +16,12 @@ class Traces(Case):
         self.assertEqual((status, errors), (0, ""))
         return out
 
-    def refused(self, text, *words):
+    def refused(self, text, *words, wanted=1):
         """The message of a file that can't be converted, without the names of tool and file."""
         path = self.file("in.csv", text)
         status, _, errors = tool("trace", *words, path)
         self.one_line(errors)
-        self.assertEqual(status, 1, errors)
+        self.assertEqual(status, wanted, errors)
         self.assertTrue(errors.startswith(f"trace: {path}: "), errors)
         return errors.removeprefix(f"trace: {path}: ").rstrip("\n")
 
@@ -102,8 +102,8 @@ class Refusals(Traces):
         self.assertEqual(self.refused("a,b\n1,2\n1\n"), "line 3: 1 fields, where 2 columns have names")
         self.assertEqual(self.refused('a,b\n1,2\n1,"x\n'), "line 3: unexpected end of data")
         self.assertEqual(self.refused('a,b\n"1\n",2\n1,x\n'), "line 4, column 2 (b): 'x' isn't a number")
-        self.assertEqual(self.refused(b"a\n1\n\xff\n"), "line 3, byte 1: not UTF-8")
-        self.assertEqual(self.refused("a\n1\n".encode("utf-16")), "line 1: a text of 16 bits a letter: make it UTF-8 first")
+        self.assertEqual(self.refused(b"a\n1\n\xff\n", wanted=2), "line 3, byte 1: not UTF-8")
+        self.assertEqual(self.refused("a\n1\n".encode("utf-16"), wanted=2), "line 1: a text of 16 bits a letter: make it UTF-8 first")
         self.assertEqual(self.refused(""), "no line with the names of the columns")
         self.assertEqual(self.refused("x" * 2000000), "line 1: longer than 1048576 bytes")
 

@@ -62,7 +62,20 @@ class Counts(Case):
         self.assertEqual(tool("verdicts", "--ignore", "granted", give=GRANTED)[0], 0)
         self.assertEqual(tool("verdicts", "--ignore", "granted", give=GRANTED + AGC)[0], 1)
         status, _, errors = tool("verdicts", "--ignore", "grant", give=GRANTED)
-        self.assertEqual((status, errors), (1, "verdicts: no output grant, which is to be ignored\n"))
+        self.assertEqual((status, errors), (2, "verdicts: no output grant, which is to be ignored (did you mean granted?)\n"))
+        self.assertEqual(tool("verdicts", "--ignore", "granted", "--spec", ROOT / "examples/grant.c2po", give="")[0], 1)
+
+    def test_tap_and_github(self):
+        words = ["--spec", ROOT / "examples/grant.c2po", "--ignore", "agc"]
+        status, out, errors = tool("verdicts", "--tap", *words, give=GRANTED + AGC + "low:3,T\n")
+        lines = ["TAP version 13", "1..3", "not ok 1 - granted # granted: F at 2", "ok 2 - agc # SKIP ignored: agc: invalid at 2", "ok 3 - low"]
+        self.assertEqual((status, out.splitlines(), errors), (1, lines, ""))
+        status, out, errors = tool("verdicts", "--github", *words, give=GRANTED + AGC)
+        self.assertEqual((status, errors), (1, ""))
+        self.assertEqual(out, f"::error file={ROOT / 'examples/grant.c2po'},line=3,title=granted::granted: F at 2\n")
+        self.assertEqual(tool("verdicts", "--github", give="f:0,T\n"), (0, "", ""))
+        suite = ElementTree.fromstring(tool("verdicts", "--junit", *words, give=GRANTED + AGC)[1])[0]
+        self.assertEqual([test.get("line") for test in suite], ["3", None])
 
     def test_outputs_without_a_line(self):
         status, out, _ = tool("verdicts", "--spec", ROOT / "examples/valves.c2po", give="shut:0,T\n")

@@ -66,6 +66,8 @@ def text_of(path: str) -> str:
         raw = file.read(LARGEST + 1)
     if raw.startswith(MAGIC):
         raise cli.Trouble(f"{path}: a compiled program, not a specification")
+    if b"\0" in raw:
+        raise cli.Trouble(f"{path}: not a text of UTF-8: it has a byte 0")
     if len(raw) > LARGEST:
         raise cli.Trouble(f"{path}: longer than {LARGEST} bytes")
     return decoded(raw)

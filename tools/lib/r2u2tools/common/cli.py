@@ -158,14 +158,6 @@ def told_os(path: object, doing: str, fault: OSError) -> Trouble:
     return Trouble(f"cannot {doing} {path}: {fault.strerror}")
 
 
-def write(path: Union[str, Path], text: str) -> None:
-    """Writes a text into a file."""
-    try:
-        Path(path).write_text(text, encoding="utf-8", errors="replace")
-    except OSError as fault:
-        raise told_os(path, "write", fault) from None
-
-
 def opened(path: Union[str, Path]) -> IO[bytes]:
     """A file as bytes, or the standard input for `-`."""
     if str(path) == "-":

@@ -25,6 +25,7 @@ from pathlib import Path
 from typing import Iterator
 
 from r2u2tools.common import cli
+from r2u2tools.common.output import write
 from r2u2tools.compare.cost_changes import cost_changes
 from r2u2tools.compare.differences import Comparison, Trace, Version, compare, order_note, version
 from r2u2tools.compare.random_traces import columns_of, trace
@@ -56,7 +57,7 @@ def traces(given: Namespace, versions: list[Version], folder: Path) -> Iterator[
     columns = columns_of([it.made.shown for it in versions])
     for k in range(given.random):
         path = Path(given.keep or folder, f"random{given.seed + k}.csv")
-        cli.write(path, trace(columns, given.rows, given.seed + k))
+        write(path, trace(columns, given.rows, given.seed + k))
         yield Trace(str(path), str(path) if given.keep else f"the random trace {given.seed + k}")
 
 

@@ -48,7 +48,7 @@ from r2u2tools.convert import c2po3, fret, maps, ogma
 from r2u2tools.convert.scaling import scales_of
 from r2u2tools.convert.verdict_files import WRITERS
 from r2u2tools.telemetry.numbers import factor
-from r2u2tools.telemetry.output import Output
+from r2u2tools.common.output import Output
 
 MOST_BYTES = 1 << 26
 # The options that each form has, besides -o.

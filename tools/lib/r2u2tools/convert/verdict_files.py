@@ -11,7 +11,7 @@ from typing import IO, Iterator, Optional
 
 from r2u2tools.common.cli import Trouble
 from r2u2tools.common.verdict_lines import Reader
-from r2u2tools.telemetry.output import Output
+from r2u2tools.common.output import Output
 
 # Of each word the value of a wire, and the text that a viewer shows next to it.
 WIRES = {"T": "1", "verified": "1", "F": "0", "invalid": "0", "inactive": "z", None: "x"}

@@ -43,8 +43,8 @@ the last value of its column. With --within a column has, of all lines of a row,
 any (a 1), all, max, min, first or last.
 
 The status is 0 where all was converted, 1 where the file has what can't be, and
-2 where the arguments are wrong or a file can't be read or written. What can't be
-converted is named by line and column; both count from 1.
+2 where the arguments are wrong, a file can't be read or written, or isn't UTF-8.
+What can't be converted is named by line and column; both count from 1.
 
 example: trace --spec bus.c2po --time t --rate 10 --scale volts=1000 log.csv
 """
@@ -59,7 +59,7 @@ from r2u2tools.common.specs import read_spec
 from r2u2tools.signals import Signals, read
 from r2u2tools.telemetry.records import Refused
 from r2u2tools.telemetry.fields import Columns
-from r2u2tools.telemetry.output import Output
+from r2u2tools.common.output import Output
 from r2u2tools.telemetry.rows import Plain, Rows, Timed
 from r2u2tools.telemetry.signal_columns import SignalColumns, chosen_signals
 from r2u2tools.telemetry.sources import FORMATS, Sources
@@ -159,7 +159,7 @@ def main() -> int:
     except Refused as fault:
         if found.telemetry == ["-"] or len(found.telemetry) > 1:
             raise
-        raise Refused(f"{found.telemetry[0]}: {fault}") from None
+        raise Refused(f"{found.telemetry[0]}: {fault}", fault.status) from None
     return 0
 
 

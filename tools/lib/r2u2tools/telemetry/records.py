@@ -5,7 +5,7 @@ from __future__ import annotations
 import csv
 from typing import BinaryIO, Iterator, Optional
 
-from r2u2tools.common.cli import Trouble
+from r2u2tools.common.cli import TROUBLE, Trouble
 
 REFUSED = 1
 LONGEST = 1 << 20
@@ -16,8 +16,8 @@ BYTE_ORDER = b"\xef\xbb\xbf"
 class Refused(Trouble):
     """What the file has can't be converted."""
 
-    def __init__(self, text: str) -> None:
-        super().__init__(text, REFUSED)
+    def __init__(self, text: str, status: int = REFUSED) -> None:
+        super().__init__(text, status)
 
 
 def shown(text: str) -> str:
@@ -35,14 +35,14 @@ def texts_of(file: BinaryIO, skip: int = 0, comment: Optional[str] = None) -> It
             raise Refused(f"line {number}: longer than {LONGEST} bytes")
         if number == 1:
             if raw.startswith(BYTES_16):
-                raise Refused("line 1: a text of 16 bits a letter: make it UTF-8 first")
+                raise Refused("line 1: a text of 16 bits a letter: make it UTF-8 first", TROUBLE)
             raw = raw.removeprefix(BYTE_ORDER)
         if number <= skip or (comment and raw.startswith(comment.encode())):
             continue
         try:
             yield number, raw.decode("utf-8")
         except UnicodeDecodeError as fault:
-            raise Refused(f"line {number}, byte {fault.start + 1}: not UTF-8") from None
+            raise Refused(f"line {number}, byte {fault.start + 1}: not UTF-8", TROUBLE) from None
 
 
 class Records:

@@ -9,7 +9,7 @@ from typing import Any, Iterator, Optional
 from r2u2tools.common.cli import Trouble
 from r2u2tools.telemetry.fields import Columns, counted
 from r2u2tools.telemetry.numbers import factor, fraction
-from r2u2tools.telemetry.output import Output
+from r2u2tools.common.output import Output
 from r2u2tools.telemetry.records import Refused, shown
 from r2u2tools.telemetry.times import Clock
 

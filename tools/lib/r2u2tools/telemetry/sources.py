@@ -168,7 +168,7 @@ class Sources:
                 self.ordered.append(made)
             return Long(made, self.found, self.wanted) if self.found.long else made
         except Refused as fault:
-            raise Refused(f"{path}: {fault}") if len(self.found.telemetry) > 1 else fault from None
+            raise Refused(f"{path}: {fault}", fault.status) if len(self.found.telemetry) > 1 else fault from None
 
     def made(self, file: BinaryIO, form: str) -> Any:
         found = self.found

@@ -31,6 +31,7 @@ from argparse import Namespace
 from typing import Optional
 
 from r2u2tools.common import cli
+from r2u2tools.common.output import write
 from r2u2tools.common.specs import read_spec
 from r2u2tools.common.cli import Trouble
 from r2u2tools.timeline.html_page import html
@@ -130,7 +131,7 @@ def main() -> int:
     model.title = found.title if found.title is not None else model.title
     text = (html if found.html else svg)(model)
     if found.o and found.o != "-":
-        cli.write(found.o, text)
+        write(found.o, text)
     else:
         sys.stdout.write(text)
     if failed:

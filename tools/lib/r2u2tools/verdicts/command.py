@@ -1,12 +1,14 @@
 """Counts the verdict lines of r2u2, so that a verdict can fail a build.
 
-usage: verdicts [--json | --junit] [--ignore NAME] [--spec FILE] [--log NAME]
-                [--exercised] [--fail-untried] [--fail-undecided] [LINES]
-       verdicts [--json | --junit] [--ignore NAME] [--log NAME] [--exercised]
-                [--fail-untried] [--fail-undecided] -- r2u2 ...
+usage: verdicts [--json | --junit | --tap | --github] [--ignore NAME]
+                [--spec FILE] [--log NAME] [--exercised] [--fail-untried]
+                [--fail-undecided] [LINES]
+       verdicts [--json | --junit | --tap | --github] [--ignore NAME]
+                [--log NAME] [--exercised] [--fail-untried]
+                [--fail-undecided] -- r2u2 ...
        verdicts --diff OTHER [LINES]
-       verdicts --merge [--json | --junit] [--ignore NAME] [--fail-untried]
-                [--fail-undecided] RESULT..
+       verdicts --merge [--json | --junit | --tap | --github] [--ignore NAME]
+                [--fail-untried] [--fail-undecided] RESULT..
 
 LINES is a file of verdict lines, by default the standard input. For each output
 the table has the number of times with each word, the first F or invalid, how
@@ -22,16 +24,17 @@ The status is 0 where all outputs have verdicts and none has F or invalid. It is
 1 where an output has one, or has no verdict, or where there is no verdict at
 all; with --fail-untried also where a left side was never true, and with
 --fail-undecided where an output is undecided at any time. It is 2 where the
-command failed or something can't be read. With --diff it is 0 where both files
+command failed, something can't be read, or --ignore names no output. With --diff it is 0 where both files
 agree, 1 where they differ and 2 where one can't be read.
 
 example: verdicts --junit -- r2u2 --source grant.c2po log.csv > result.xml
 """
 
+import difflib
 import sys
 import time
 from argparse import Namespace
-from typing import Optional
+from typing import Iterable, Optional
 
 from r2u2tools.common import cli
 from r2u2tools.verdicts.left_sides import exercised, from_contracts, runs_twice
@@ -40,7 +43,7 @@ from r2u2tools.common.specs import read_spec
 from r2u2tools.common.cli import Trouble
 from r2u2tools.verdicts.counts import Result, Rules, counted, rows_of
 from r2u2tools.verdicts.diff import told_diff
-from r2u2tools.verdicts.junit import as_junit
+from r2u2tools.verdicts.junit import as_github, as_junit, as_tap
 from r2u2tools.verdicts.merge import merged
 from r2u2tools.verdicts.records import as_json
 from r2u2tools.verdicts.table import as_table
@@ -52,6 +55,8 @@ def parser() -> cli.Words:
     form = words.add_mutually_exclusive_group()
     form.add_argument("--json", action="store_true", help="print one object of JSON in place of the table")
     form.add_argument("--junit", action="store_true", help="print a test for each output, for continuous integration")
+    form.add_argument("--tap", action="store_true", help="print a line for each output, as the Test Anything Protocol has it")
+    form.add_argument("--github", action="store_true", help="print annotations of GitHub at the lines of what fails")
     words.add_argument(
         "--ignore", metavar="NAME", action="append", default=[],
         help="an output that may have F or invalid, or no verdict",
@@ -88,7 +93,7 @@ def misused(found: Namespace, dashes: bool) -> Optional[str]:
         return "--merge needs files that --json printed"
     if not found.merge and len(found.files) > 1:
         return "one file of LINES at a time"
-    alone = found.merge or found.json or found.junit or found.exercised or found.ignore
+    alone = found.merge or found.json or found.junit or found.tap or found.github or found.exercised or found.ignore
     if found.diff and (alone or found.fail_untried or found.fail_undecided):
         return "--diff takes no other option"
     if found.merge and found.exercised:
@@ -149,7 +154,8 @@ def take_spec(result: Result, path: Optional[str], lenient: bool) -> None:
     for output in spec.outputs:
         body = output.body
         text = " ".join(spec.text[body[0].start : body[-1].end].split()) if body and not spec.is_program() else ""
-        result.output(output.name).requirement = text
+        kept = result.output(output.name)
+        kept.requirement, kept.line = text, body[0].line if body else 0
 
 
 def main() -> int:
@@ -157,10 +163,17 @@ def main() -> int:
     if found.diff:
         return told_diff(found.files[0] if found.files else "-", found.diff)
     result = merged(found.files) if found.merge else one_result(found)
-    for name in found.ignore:
-        if name not in result.outputs:
-            cli.note(f"no output {name}, which is to be ignored")
+    unknown = [name for name in found.ignore if name not in result.outputs]
+    for name in unknown:
+        cli.note(f"no output {name}, which is to be ignored{like(name, result.outputs)}")
     rules = Rules(tuple(found.ignore), found.fail_untried, found.fail_undecided)
-    form = as_json if found.json else as_junit if found.junit else as_table
-    print(form(result, rules))
-    return result.status(rules)
+    forms = {"json": as_json, "junit": as_junit, "tap": as_tap, "github": as_github}
+    text = next((forms[form] for form in forms if getattr(found, form)), as_table)(result, rules)
+    print(text, end="\n" * bool(text))
+    return max(result.status(rules), cli.TROUBLE * bool(unknown))
+
+
+def like(name: str, known: Iterable[str]) -> str:
+    """A known name that is close to one, as a question."""
+    close = difflib.get_close_matches(name, known, 1)
+    return f" (did you mean {close[0]}?)" if close else ""

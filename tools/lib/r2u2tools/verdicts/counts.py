@@ -48,6 +48,7 @@ class Output:
     last: Optional[Event] = None
     left: Optional[dict[str, int]] = None
     requirement: str = ""
+    line: int = 0
 
     def take(self, first: int, last: int, word: str, log: Optional[str] = None) -> None:
         """Adds a stretch of times with one word; times rise from call to call."""
@@ -80,7 +81,7 @@ class Output:
         self.bad_logs += other.bad_logs
         self.stretches += other.stretches
         self.first, self.last = self.first or other.first, other.last or self.last
-        self.requirement = self.requirement or other.requirement
+        self.requirement, self.line = self.requirement or other.requirement, self.line or other.line
         if other.longest and (self.longest is None or other.longest.times() > self.longest.times()):
             self.longest = other.longest
         if other.left is not None:
@@ -148,11 +149,6 @@ class Result(Ended):
         if self.logs == 1 and not self.lines and not self.failed:
             self.empty = [self.log or ""]
 
-    def without_verdict(self, rules: Rules) -> list[str]:
-        """Returns the logs without a verdict, unless all outputs are ignored."""
-        ignored = self.outputs and all(name in rules.ignored for name in self.outputs)
-        return [] if ignored else self.empty
-
     def faults(self, rules: Rules) -> dict[str, str]:
         """Returns why outputs fail the build, by name."""
         found = ((name, rules.fault(output)) for name, output in self.outputs.items())
@@ -164,7 +160,7 @@ class Result(Ended):
             return 128 + self.stopped
         if self.failed:
             return 2
-        nothing = not self.outputs or self.without_verdict(rules)
+        nothing = not self.outputs or self.empty
         return 1 if nothing or self.faults(rules) else 0
 
 

@@ -1,9 +1,9 @@
-"""The counts of verdicts as JUnit's XML, which continuous integration reads: a suite for each log."""
+"""The counts of verdicts as continuous integration reads them: as JUnit's XML, as TAP, or as annotations of GitHub."""
 
 from __future__ import annotations
 
 import os
-from typing import Iterator
+from typing import Iterator, Optional
 from xml.etree import ElementTree
 from xml.etree.ElementTree import Element
 
@@ -55,13 +55,14 @@ def tests_of(result: Result, rules: Rules) -> Iterator[Element]:
     """Yields a test for each output, and one for the run itself where it failed or printed nothing."""
     place = {"classname": class_of(result), **({"file": result.spec} if result.spec else {})}
     for output in result.outputs.values():
-        yield element("testcase", outcome(output, rules), name=output.name, time="0.000", **place)
+        line = {"line": str(output.line)} if output.line else {}
+        yield element("testcase", outcome(output, rules), name=output.name, time="0.000", **place, **line)
     for fault in result.failed:
         error = element("error", [], message=failure_text(fault), type=str(fault["code"] or "unreadable"))
         error.text = plain(failure_text(fault))
         name = f"run of {fault['log']}" if fault.get("log") else "run"
         yield element("testcase", [error], name=name, time=f"{result.seconds:.3f}", **place)
-    if not result.failed and (not result.outputs or result.without_verdict(rules)):
+    if not result.failed and (not result.outputs or result.empty):
         failure = element("failure", [], message=NO_VERDICT, type="nothing")
         failure.text = "The run printed no verdict line."
         yield element("testcase", [failure], name="run", time=f"{result.seconds:.3f}", **place)
@@ -86,3 +87,36 @@ def as_junit(result: Result, rules: Rules) -> str:
     root = element("testsuites", suites, name=NO_SPEC, **counts(every, total))
     ElementTree.indent(root)
     return '<?xml version="1.0" encoding="UTF-8"?>\n' + ElementTree.tostring(root, encoding="unicode")
+
+
+def results(result: Result, rules: Rules) -> Iterator[tuple[Element, Optional[Element]]]:
+    """Yields all tests, each with what makes it fail or be skipped."""
+    for log in result.suites or [result]:
+        for test in tests_of(log, rules):
+            yield test, test[0] if len(test) else None
+
+
+def as_tap(result: Result, rules: Rules) -> str:
+    """Returns a line for each test, as the Test Anything Protocol has it."""
+    lines = []
+    for number, (test, why) in enumerate(results(result, rules), 1):
+        failed = why is not None and why.tag != "skipped"
+        text = f"{'not ' * failed}ok {number} - {test.get('name')}"
+        lines.append(text if why is None else f"{text} # {'' if failed else 'SKIP '}{why.get('message')}")
+    return "\n".join(["TAP version 13", f"1..{len(lines)}", *lines])
+
+
+def as_github(result: Result, rules: Rules) -> str:
+    """Returns an annotation for each test that fails, at the line of its requirement."""
+    lines = []
+    for test, why in results(result, rules):
+        if why is not None and why.tag != "skipped":
+            place = {"file": test.get("file"), "line": test.get("line"), "title": test.get("name")}
+            given = ",".join(f"{name}={escaped(value, ':,')}" for name, value in place.items() if value)
+            lines.append(f"::error {given}::{escaped(why.get('message') or '')}")
+    return "\n".join(lines)
+
+
+def escaped(text: str, more: str = "") -> str:
+    """Returns a text as a command of GitHub's runner holds it."""
+    return "".join(f"%{ord(letter):02X}" if letter in "%\r\n" + more else letter for letter in text)

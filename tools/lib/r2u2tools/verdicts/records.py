@@ -26,6 +26,8 @@ def output_record(output: Output) -> dict[str, Any]:
     kept |= {"longest": event_record(output.longest), "last": event_record(output.last)}
     if output.requirement:
         kept["requirement"] = output.requirement
+    if output.line:
+        kept["line"] = output.line
     return kept | ({"exercised": output.left} if output.left is not None else {})
 
 
@@ -76,7 +78,7 @@ def output_of(record: Any) -> Output:
     output.bad_logs, output.stretches = number(record, "bad_logs"), number(record, "stretches")
     output.first = first_of(record["first"])
     output.longest, output.last = event_of(record["longest"]), event_of(record["last"])
-    output.requirement = text(record, "requirement") or ""
+    output.requirement, output.line = text(record, "requirement") or "", number(record, "line") if "line" in record else 0
     left = record.get("exercised")
     output.left = None if left is None else {key: number(left, key) for key in ("true", "of")}
     return output

@@ -62,7 +62,7 @@ def as_table(result: Result, rules: Rules) -> str:
 
 def remarks(result: Result, rules: Rules) -> Iterator[str]:
     """Yields what follows the table: no verdict, what was ignored or never tried, which runs failed."""
-    nothing = result.without_verdict(rules)
+    nothing = result.empty
     if result.logs == 1 and (nothing or not result.outputs) and not result.failed:
         yield NO_VERDICT
     elif nothing:

@@ -34,6 +34,7 @@ from pathlib import Path
 from typing import Optional
 
 from r2u2tools.common import cli
+from r2u2tools.common.output import write
 from r2u2tools.common.cli import Trouble
 from r2u2tools.common.compiled import compiled
 from r2u2tools.why.explanation import Explainer
@@ -90,7 +91,7 @@ def explain(asked: Question, folder: Path) -> int:
     if asked.word and asked.word != found.word:
         cli.note(f"the line has {asked.word}, and over this trace the verdict is {found.word or 'open'}")
     if asked.html:
-        cli.write(asked.html, page(lines, told.name, found, asked.time, trace, explainer.kinds()))
+        write(asked.html, page(lines, told.name, found, asked.time, trace, explainer.kinds()))
     return 0
 
 
