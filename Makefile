@@ -80,7 +80,7 @@ docs:
 	dev/site
 
 DIST = r2u2-$(VERSION)-$(shell uname -m)
-PAGES = README.md CONTRIBUTING.md CHANGELOG.md VERSION docs examples bench/README.md
+PAGES = README.md CONTRIBUTING.md CHANGELOG.md CITATION.cff VERSION docs examples bench/README.md
 
 # The tarball has the same bytes for the same files: sorted, without names of users, with the time of the last commit.
 dist:

@@ -15,6 +15,7 @@ class Version(Case):
         self.assertIn(f"#define R2U2_VERSION {number}u\n", header)
         self.assertIn(f'#define R2U2_VERSION_TEXT "{version}"\n', header)
         self.assertIn(f"pub const VERSION: u32 = {number};\n", library)
+        self.assertIn(f"\nversion: {version}\n", (ROOT / "CITATION.cff").read_text(encoding="utf-8"))
 
 
 class Archive(Case):
