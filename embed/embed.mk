@@ -89,12 +89,13 @@ endif
 $(TRIES):
 	@mkdir -p $@
 
-# The library asks for these names alone, has no data that is written, and links at any address.
+# The library asks for these names alone, defines none without its prefix, has no data that is written, and links at any address.
 ASKED = memcpy memmove memset r2u2_alloc r2u2_dealloc r2u2_realloc
 
 check-symbols: | $(TRIES)
 	$(TARGET_NM) -u $(EMBED)/libr2u2.a | awk '$$1 == "U" { print $$2 }' | sort -u > $(TRIES)/symbols
 	printf '%s\n' $(ASKED) | cmp - $(TRIES)/symbols
+	$(TARGET_NM) -g --defined-only $(EMBED)/libr2u2*.a | awk 'NF == 3 && $$3 !~ /^r2u2_/ { print; bad = 1 } END { exit bad }'
 	$(TARGET_READELF) -SW $(EMBED)/libr2u2.a | sed 's/^ *\[ *[0-9]*\] *//' > $(TRIES)/sections
 	awk '$$7 ~ /W/ && $$5 !~ /^0*$$/ && $$1 !~ /^\.data\.rel\.ro/ { print; bad = 1 } END { exit bad }' $(TRIES)/sections
 	$(TARGET_LINK) -shared -nostdlib -Wl,-z,text -Wl,--whole-archive $(EMBED)/libr2u2.a -o $(TRIES)/anywhere.so
