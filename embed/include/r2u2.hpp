@@ -66,16 +66,26 @@ public:
     }
 
     // Opens a program under a header, as "# request,grant".
+    std::uint32_t open_under(const std::uint8_t *program, std::size_t count, const char *header, std::size_t header_count,
+                             r2u2_fault *fault = nullptr) noexcept {
+        return r2u2_checked_open_under(&it, program, count, header, header_count, fault);
+    }
+
     template <class Program, class Header>
     std::uint32_t open_under(const Program &program, const Header &header, r2u2_fault *fault = nullptr) noexcept {
-        return r2u2_checked_open_under(&it, bytes_of(program), program.size(), header.data(), header.size(), fault);
+        return open_under(bytes_of(program), program.size(), header.data(), header.size(), fault);
     }
 
     // Opens a program if its SHA-256 is the digest: else R2U2_DAMAGED.
+    std::uint32_t open_checked(const std::uint8_t *program, std::size_t count, const std::uint8_t (&digest)[R2U2_DIGEST_BYTES],
+                               r2u2_fault *fault = nullptr) noexcept {
+        return r2u2_checked_open_checked(&it, program, count, digest, fault);
+    }
+
     template <class Program>
     std::uint32_t open_checked(const Program &program, const std::uint8_t (&digest)[R2U2_DIGEST_BYTES],
                                r2u2_fault *fault = nullptr) noexcept {
-        return r2u2_checked_open_checked(&it, bytes_of(program), program.size(), digest, fault);
+        return open_checked(bytes_of(program), program.size(), digest, fault);
     }
 
     // Stores in `found` how many bytes a monitor of this program holds while it is open.
@@ -113,10 +123,15 @@ public:
     }
 
     // Takes rows one after another, whose numbers are in one range, and stores their reports, as r2u2_row_many does.
+    std::uint32_t row_many(const std::int64_t *numbers, std::size_t count, r2u2_report *reports, std::size_t room,
+                           r2u2_batch &batch, r2u2_row_fault *fault = nullptr, r2u2_style style = R2U2_EACH) noexcept {
+        return r2u2_checked_row_many(&it, style, numbers, count, reports, room, &batch, fault);
+    }
+
     template <class Numbers>
     std::uint32_t row_many(const Numbers &numbers, r2u2_report *reports, std::size_t room, r2u2_batch &batch,
                            r2u2_row_fault *fault = nullptr, r2u2_style style = R2U2_EACH) noexcept {
-        return r2u2_checked_row_many(&it, style, numbers.data(), numbers.size(), reports, room, &batch, fault);
+        return row_many(numbers.data(), numbers.size(), reports, room, batch, fault, style);
     }
 
     // Resets the monitor to its state before the first row, in the memory that it has.

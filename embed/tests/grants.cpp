@@ -43,6 +43,20 @@ static bool is_checked(const std::vector<char> &program, const Row &row) {
            handle.row(row) == R2U2_DONE && handle.next_many(reports, 2, count) == R2U2_DONE && count == 1;
 }
 
+// Whether pointers with counts serve as ranges do.
+static bool takes_pointers(const std::vector<char> &program) {
+    const std::uint8_t *bytes = reinterpret_cast<const std::uint8_t *>(program.data());
+    const std::uint8_t other[R2U2_DIGEST_BYTES] = {};
+    const std::int64_t numbers[] = {1, 0, 0, 1};
+    mltl::Handle handle;
+    r2u2_report reports[8];
+    r2u2_batch batch{};
+    return handle.open_checked(bytes, program.size(), other) == R2U2_DAMAGED &&
+           handle.open_under(bytes, program.size(), "#grant,request", 14) == R2U2_DONE && handle.row(numbers, 2) == R2U2_DONE &&
+           handle.row_many(numbers + 2, 2, reports, 8, batch) == R2U2_REPORTS_LEFT && handle.reset() == R2U2_DONE &&
+           handle.row_many(numbers, 4, reports, 8, batch) == R2U2_DONE && batch.rows == 2 && batch.reports == 1;
+}
+
 // Whether a handle that another was moved from has no monitor, by both ways to move, and the other's own was closed.
 static bool is_moved(const std::vector<char> &program, const Row &row) {
     mltl::Handle first, second;
@@ -74,7 +88,7 @@ static int run(const char *name) {
     mltl::Handle handle;
     mltl::Report report;
     if (!is_refused(monitor) || !is_described(monitor, program) || !is_closed(handle)) return 1;
-    if (!is_checked(program, rows[1]) || !is_batched(program) || !is_moved(program, rows[1])) return 1;
+    if (!is_checked(program, rows[1]) || !is_batched(program) || !is_moved(program, rows[1]) || !takes_pointers(program)) return 1;
     monitor.row(rows[1]);
     monitor.reset();
     if (monitor.rows() != 0 || monitor.next(report)) return 1;
