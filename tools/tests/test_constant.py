@@ -12,7 +12,8 @@ class Constant(Case):
     def test_bytes_and_digest(self):
         status, out, errors = shell('"$CONSTANT" grant "$GRANT"', CONSTANT=CONSTANT, GRANT=GRANT)
         self.assertEqual((status, errors), (0, ""))
-        found = {name: bytes(int(byte, 16) for byte in re.findall("0x(..)", body)) for name, body in re.findall(r"uint8_t (\w+)\[\d*\] = \{(.*?)\}", out, re.S)}
+        arrays = re.findall(r"uint8_t (\w+)\[\d*\] = \{(.*?)\}", out, re.S)
+        found = {name: bytes.fromhex("".join(re.findall("0x(..)", body))) for name, body in arrays}
         raw = GRANT.read_bytes()
         self.assertEqual(found, {"grant": raw, "grant_digest": hashlib.sha256(raw).digest()})
 
