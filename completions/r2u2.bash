@@ -16,7 +16,7 @@ _r2u2_options() {
             --time-unit --start --snap --stamps --sort --dedupe --hold --delimiter --decimal-comma --skip --comment --format --long -o --help ;;
         r2u2-verdicts) echo --json --junit --tap --github --ignore --spec --log --exercised --fail-untried --fail-undecided --diff --merge --help ;;
         r2u2-watch) echo --timed --on-false --stop-at-first --keep --quiet --help ;;
-        r2u2-why) echo --timed --begin --html --help ;;
+        r2u2-why) echo --timed --begin --seconds --html --help ;;
     esac
 }
 

@@ -137,5 +137,6 @@ complete -c r2u2-watch -l help -d 'Help'
 
 complete -c r2u2-why -l timed -d 'The rows have stamps'
 complete -c r2u2-why -l begin -x -d 'The first row of the trace'
+complete -c r2u2-why -l seconds -x -d 'How long to look'
 complete -c r2u2-why -l html -r -F -d 'Write a page'
 complete -c r2u2-why -l help -d 'Help'

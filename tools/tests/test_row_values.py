@@ -7,23 +7,9 @@ from unittest import mock
 from shown_text import definitions
 from r2u2tools.why import row_values
 from r2u2tools.why.omega import Omega, Unknown, value_of
-from r2u2tools.why.row_values import quotient
+from r2u2tools.why.row_values import computed, quotient
 
 SMALL = range(-6, 7)
-SIGNS = {
-    "+": lambda a, b: a + b, "-": lambda a, b: a - b, "*": lambda a, b: a * b, "/": quotient, "%": lambda a, b: a - b * quotient(a, b),
-    "==": lambda a, b: a == b, "<": lambda a, b: a < b, "<=": lambda a, b: a <= b,
-}
-
-
-def computed(shown, ref, values):
-    node = shown.nodes.get(ref)
-    if node is None:
-        return values[ref] if ref in values else int(ref)
-    sides = [computed(shown, operand, values) for operand in node.operands()]
-    return SIGNS[node.op](*sides) if node.right else -sides[0]
-
-
 def expression(dice, lines, depth):
     if depth == 0 or dice.random() < 0.3:
         return dice.choice(("x", "y", "x", "y", str(dice.randint(0, 3))))
@@ -100,6 +86,8 @@ class RowValues(unittest.TestCase):
         with self.assertRaises(Unknown):
             Omega(1).solved([zero], [])
 
-
-if __name__ == "__main__":
-    unittest.main()
+    def test_that_there_are_none_is_tried(self):
+        shown = definitions("INPUT x: int;\nINPUT y: int;\nDEFINE n0 := x + y;\nDEFINE n1 := n0 == 1;\n")
+        with mock.patch.object(row_values.Search, "found", lambda _: None):
+            found = row_values.row_values(shown, {"n1": 1}, {"x": 0})
+        self.assertEqual(found, {"y": 1})

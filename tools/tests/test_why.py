@@ -234,6 +234,37 @@ class Sentences(Case):
         self.assertEqual(self.over(text, "1\n", "f:0")[0], "f is T at 0: mode == 1 at row 0 (1)")
         self.assertEqual(self.over(text, "2\n", "f:0")[0][:9], "f is F at")
 
+    def test_members_in_the_place_of_the_circuit_that_counts_them(self):
+        text = "INPUT x, y, z: bool;\nFTSPEC f: G[0,2] foratmost(m: {x, y, F[0,1] z}, 1)(m); g: foratleast(m: {x, y, z}, 3)(m);\n"
+        rows = "1,1,0\n1,1,1\n1,0,1\n"
+        lines = [
+            "    foratmost(m: {x, y, F[0,1] z}, 1)(m) is false at time 2: 2 of 3 hold: x, F[0,1] z; the quantifier takes at most 1",
+            "      F[0,1] z holds at time 2",
+            "        z holds at row 2",
+            "      x holds at row 2",
+        ]
+        self.assertEqual(self.over(text, rows, "f:0")[2:], lines)
+        line = "  foratleast(m: {x, y, z}, 3)(m) is false at time 0: 2 of 3 hold: x, y; the quantifier takes at least 3"
+        self.assertEqual(self.over(text, rows, "g:0")[1], line)
+
+    def test_a_program_too_large_to_show(self):
+        members = ", ".join(f"O[{k},{k}] p" for k in range(30))
+        text = f"INPUT p: bool;\nPTSPEC few: foratmost(k: {{{members}}}, 3)(k);\n"
+        lines = self.over(text, "1\n" * 5, "few:4")
+        self.assertTrue(lines[0].startswith("few is F at 4: p holds at rows "), lines[0])
+        self.assertIn("foratmost(k: {..}, 3)(k) is false at time 4: 5 of 30 hold: O[0,0] p, O[1,1] p", lines[1])
+
+    def test_an_open_verdict_names_no_signal_that_a_constant_makes_idle(self):
+        text = "INPUT p, q: bool;\nFTSPEC f: p R[3,7] true; g: (p U[2,5] true) && (q || true);\n"
+        self.assertEqual(self.over(text, "0,0\n0,0\n", "f:1")[0], "f is open at 1: waits for row 8")
+        self.assertEqual(self.over(text, "1,0\n1,0\n", "g:0")[0], "g is open at 0: waits for row 2")
+
+    def test_no_time_to_leave_cells_out(self):
+        text = "INPUT p, q: bool;\nFTSPEC f: (p -> q) && (p || q);\n"
+        self.assertEqual(self.over(text, "1,1\n", "f:0")[0], "f is T at 0: q holds at row 0")
+        last = "after 0 seconds: not all of these cells may be needed; --seconds 60 looks for longer"
+        self.assertEqual(self.over(text, "1,1\n", "f:0", "--seconds", 0)[-1], last)
+
     def test_a_conjunction_with_true(self):
         text = "INPUT p, q: bool;\nFTSPEC f: p && (q && true);\n"
         self.assertEqual(self.over(text, "1,1\n", "f:0")[0], "f is T at 0: p holds at row 0; q holds at row 0")

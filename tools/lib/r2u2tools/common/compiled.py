@@ -12,12 +12,13 @@ from r2u2tools.common.expressions import TRUTHS, Expression, bound_names, plain,
 from r2u2tools.common import programs
 from r2u2tools.common.program_file import Program, read_program
 from r2u2tools.common.programs import ran
-from r2u2tools.common.program_text import ProgramText, Requirement, program_text
+from r2u2tools.common.program_text import Bare, Count, ProgramText, Requirement, program_text
 from r2u2tools.common.specs import MAGIC, Item, Spec, Token, read_spec
 from r2u2tools.common.cli import Trouble, opened
 
 REFUSED = re.compile(r"c2po: line (\d+): (.*)")
 QUANTIFIERS = ("foreach", "forsome", "forexactly", "foratleast", "foratmost")
+COUNTING = QUANTIFIERS[2:]
 MOST_NAMES, MOST_QUOTED, MOST_TOKENS = 256, 400, 20_000
 FilePath = Union[str, Path]
 
@@ -142,12 +143,18 @@ def quote(made: Compiled, told: Requirement, folder: FilePath) -> None:
     if made.given.is_program():
         return
     output = made.given.outputs[made.shown.outputs.index(told)]
-    asked = {it: output.section for it in written_formulas(made.given, output.body)}
-    if found := with_outputs(made.given, asked, folder):
+    counts = dict(written_counts(made.given, output.body))
+    texts = [*written_formulas(made.given, output.body), *counts, *(it for _, _, members in counts.values() for it in members)]
+    if found := with_outputs(made.given, dict.fromkeys(texts, output.section), folder):
         other, formulas = found
+        parts: dict[str, list[Bare]] = {}
         for number, ref, denied in equal_parts(made.shown, other):
+            parts.setdefault(formulas[number], []).append((ref, denied))
             if (ref, denied) not in made.shown.called and ref not in made.shown.signals:
                 made.shown.quoted.setdefault((ref, denied), formulas[number])
+        for text, (word, least, members) in counts.items():
+            if all(it in parts for it in members):
+                made.shown.counts.update(dict.fromkeys(parts.get(text, ()), Count(word, least, [parts[it][0] for it in members])))
 
 
 def written_formulas(given: Spec, body: list[Token]) -> list[str]:
@@ -168,6 +175,25 @@ def written_formulas(given: Spec, body: list[Token]) -> list[str]:
     fields = {item.name: fields_of(item.body) for item in given.items if item.section == "STRUCT" and item.name}
     inner = (picked(formula, fields) for read in read_all for formula in inner_formulas(given.text, read, by_name))
     return list(dict.fromkeys(chain(found, islice(inner, MOST_QUOTED))))[:MOST_QUOTED]
+
+
+def written_counts(given: Spec, body: list[Token]) -> Iterator[tuple[str, tuple[str, int, list[str]]]]:
+    """The quantifiers that count in a requirement and in the definitions that it reads, by their texts: the word, the number
+    and the formulas of the members. One within another quantifier has none, as its text is that of no part."""
+    by_name = {item.name: item for item in given.items if item.section == "DEFINE"}
+    left, seen = sides_of(body), set[Optional[str]]()
+    while left:
+        read = left.pop()
+        for it in tree.each() if (tree := tree_of(read)) else ():
+            if it.op in COUNTING:
+                head, inner = read[slice(*it.sign)], read[it.parts[0].first : it.parts[0].last]
+                pieces = arguments(by_name[head[4].text].body if head[4].text in by_name else head[4:])
+                members = [with_members(given.text, inner, {head[2].text: member(given.text, piece, {})}) for piece in pieces]
+                if members and head[-2].text.isdigit():
+                    yield plain(given.text, read[it.first : it.last]), (it.op, int(head[-2].text), members)
+        fresh = [item for item in names_in(read, by_name) if item.name not in seen]
+        seen.update(item.name for item in fresh)
+        left += [item.body for item in fresh]
 
 
 def fields_of(body: list[Token]) -> list[str]:
@@ -225,14 +251,14 @@ def arguments(read: list[Token]) -> list[list[Token]]:
     """What the commas part in the brackets with which a set or a struct begins; none where it begins otherwise."""
     found, depth = list[list[Token]](), 0
     for token in read if [it.text for it in read[:1]] == ["{"] or [it.text for it in read[1:2]] == ["("] else []:
-        depth -= token.text in (")", "}")
+        depth -= token.text in (")", "}", "]")
         if token.text in ("(", "{") and depth == 0 or token.text == "," and depth == 1:
             found.append([])
         elif found and depth:
             found[-1].append(token)
         elif found:
             break
-        depth += token.text in ("(", "{")
+        depth += token.text in ("(", "{", "[")
     return found
 
 

@@ -6,6 +6,7 @@ into its operators and operands, so that each can be found, quoted or shortened.
 
 from __future__ import annotations
 
+import re
 from dataclasses import dataclass
 from typing import Iterator, Optional, Sequence
 
@@ -200,6 +201,8 @@ class Shortener:
         if not it.parts:
             return text if len(text) <= room + len(CUT) else CUT
         sign = self.written(*it.sign)
+        if it.op in QUANTIFIERS and len(sign) > room:
+            sign = re.sub(r"\{.*\}", "{" + CUT + "}", sign)
         if it.op == "(" or it.op in QUANTIFIERS:
             inner = self.operand(it.parts[0], room - len(sign) - 2)
             return f"{sign}({inner})"

@@ -59,6 +59,18 @@ class Requirement:
         return (self.left, self.right) if self.right else (self.left,)
 
 
+@dataclass(frozen=True)
+class Count:
+    """A quantifier that counts: its word, its number, and the formulas of its members, each as it is or denied."""
+
+    word: str
+    number: int
+    members: list[Bare]
+
+    def wanted(self) -> str:
+        return f"{self.word.removeprefix('for').replace('at', 'at ')} {self.number}"
+
+
 @dataclass
 class Form:
     """An operator of the language, its operands, each as it is or denied, and its interval."""
@@ -80,6 +92,8 @@ class ProgramText:
     # The names that the specification gives to formulas, and how it writes others.
     called: dict[Bare, str] = field(default_factory=dict)
     quoted: dict[Bare, str] = field(default_factory=dict)
+    # The formulas that the specification writes as quantifiers that count.
+    counts: dict[Bare, Count] = field(default_factory=dict)
 
     def output(self, name: str) -> Requirement:
         for told in self.outputs:

@@ -1,6 +1,7 @@
 """Explains why a verdict is what it is.
 
-usage: why [--timed] [--begin ROW] [--html FILE] SPEC TRACE NAME:TIME
+usage: why [--timed] [--begin ROW] [--seconds N] [--html FILE]
+           SPEC TRACE NAME:TIME
 
 SPEC is a specification or a compiled program, TRACE a trace as r2u2 takes it,
 `-` for the standard input, and NAME:TIME an output and a time, as in a verdict
@@ -17,8 +18,9 @@ The verdicts of the parts are those of r2u2, which watches the program with each
 part as an output, over the rows that the
 windows of the verdict reach. Where a verdict follows in several ways, a way
 with few cells is chosen, and a cell that isn't needed is left out: r2u2 finds
-that over rows with other values there. Long windows, of more than 256 cells or
-of thousands of times of the parts, aren't tried so.
+that over rows with other values there, for 5 seconds or those of --seconds: the
+last line says when there wasn't time for all. Long windows, of more than 256
+cells or of thousands of times of the parts, aren't tried so.
 
 The exit code is 0 where the reasons are printed, and 2 where something can't be
 read or SPEC hasn't such an output.
@@ -58,12 +60,14 @@ class Question:
     timed: bool
     begin: int
     html: Optional[str]
+    seconds: int
 
 
 def asked() -> Question:
     words = cli.words(__doc__)
     words.add_argument("--timed", action="store_true", help="the rows of the trace have stamps")
     words.add_argument("--begin", metavar="ROW", type=cli.count, default=0, help="the first row of TRACE, the rest of a longer one")
+    words.add_argument("--seconds", metavar="N", type=cli.count, default=5, help="how long to look for cells that aren't needed; 5")
     words.add_argument("--html", metavar="FILE", help="write a page that marks the cells in the rows around them")
     words.add_argument("spec", metavar="SPEC", help="a specification or a compiled program")
     words.add_argument("trace", metavar="TRACE", help="a trace, or - for the standard input")
@@ -72,13 +76,13 @@ def asked() -> Question:
     verdict = ASKED.fullmatch(found.verdict.strip())
     if not verdict:
         raise Trouble(f"no verdict is called {found.verdict}: write NAME:TIME, as in granted:2")
-    return Question(found.spec, found.trace, verdict[1], int(verdict[2]), verdict[3], found.timed, found.begin, found.html)
+    return Question(found.spec, found.trace, verdict[1], int(verdict[2]), verdict[3], found.timed, found.begin, found.html, found.seconds)
 
 
 def explain(asked: Question, folder: Path) -> int:
     made = compiled(asked.spec, folder)
     told = made.shown.output(asked.name)
-    explainer = Explainer(made, told, folder)
+    explainer = Explainer(made, told, folder, asked.seconds)
     window = explainer.window(asked.trace, asked.time, asked.timed, asked.begin)
     if asked.time >= window.rows:
         print(no_row(asked.name, asked.time, window.rows, asked.timed))
@@ -87,6 +91,8 @@ def explain(asked: Question, folder: Path) -> int:
     trace = Cells(window, explainer.signals)
     says = Sentences(made.shown, trace, asked.timed)
     lines = [says.first_line(found, asked.name, asked.time), *says.tree(found)]
+    if found.is_cut:
+        lines.append(f"after {asked.seconds} seconds: not all of these cells may be needed; --seconds {12 * max(asked.seconds, 5)} looks for longer")
     print("\n".join(lines))
     if asked.word and asked.word != found.word:
         cli.note(f"the line has {asked.word}, and over this trace the verdict is {found.word or 'open'}")

@@ -9,7 +9,7 @@ from typing import Optional, Union
 
 from r2u2tools.common.compiled import Compiled, quote
 from r2u2tools.common.cli import Trouble
-from r2u2tools.common.program_text import ProgramText, Requirement
+from r2u2tools.common.program_text import Bare, Count, ProgramText, Requirement
 from r2u2tools.common.specs import read_spec
 from r2u2tools.why.deciding import Cell, Derivation, derivation
 from r2u2tools.why.least_cells import LeastCells, Rows
@@ -33,6 +33,9 @@ class Reason:
     times: list[int]
     below: list[Reason] = field(default_factory=list)
     cells: frozenset[Cell] = frozenset()
+    # Of a quantifier that counts, at one time: the members that hold there, and the quantifier.
+    hold: list[Bare] = field(default_factory=list)
+    count: Optional[Count] = None
 
 
 @dataclass
@@ -50,7 +53,8 @@ class Explanation:
 
     `word` is what is said of it, None of an open one, and `at` the time of which the reasons speak: of an open verdict
     that its parts decide, an earlier one, whose line comes first. `cells` decide the verdict; the reasons may speak of
-    more, where no part alone is decided by fewer. `needed` has of a cell rows that show that it can't be left out.
+    more, where no part alone is decided by fewer. `needed` has of a cell rows that show that it can't be left out. After
+    the seconds that were asked for, `is_cut`, there may be cells that can.
     """
 
     word: Optional[str]
@@ -59,6 +63,7 @@ class Explanation:
     cells: frozenset[Cell]
     leaves: list[Reason]
     needed: dict[Cell, Rows] = field(default_factory=dict)
+    is_cut: bool = False
     held: Optional[Held] = None
 
 
@@ -66,7 +71,7 @@ class Follows:
     """What a derivation says of a part: operands with their words and times."""
 
     def __init__(self, made: Derivation) -> None:
-        self.made = made
+        self.made, self.verdicts = made, made.verdicts
 
     def below(self, ref: str, word: int, times: set[int]) -> Below:
         found: Below = {}
@@ -90,8 +95,37 @@ class Tree:
         told = DENIED[word] if denied else word
         if self.shown.is_leaf(ref):
             return self.leaf(ref, denied, told, times)
+        count = self.shown.counts.get((ref, False)) or self.shown.counts.get((ref, True))
+        if count:
+            return self.counted(Reason(ref, denied, told, sorted(times)), word, count)
         below = in_order(self.merged(ref, denied, self.source.below(ref, word, times)))
         return Reason(ref, denied, told, sorted(times), below, union(below))
+
+    def counted(self, reason: Reason, word: int, count: Count) -> Reason:
+        """The members on which a quantifier depends, in the place of the parts that count them."""
+        members, seen = dict(count.members), set[tuple[str, int, int]]()
+        found: Below = {}
+        left = [(reason.ref, word, time) for time in reason.times]
+        while left:
+            part = left.pop()
+            for (ref, its), times in self.source.below(part[0], part[1], {part[2]}).items():
+                bare, turned = self.shown.bare(ref)
+                fresh = {(ref, its, time) for time in times} - seen
+                seen |= fresh
+                if bare in members or self.shown.signals_of(bare) and self.shown.is_leaf(bare):
+                    found.setdefault((bare, DENIED[its] if turned else its), set()).update(times)
+                elif bare != "true":
+                    left += fresh
+        reason.below = in_order([self.reason(ref, its, times, members.get(ref, False)) for (ref, its), times in found.items()])
+        reason.cells, reason.count = union(reason.below), count
+        if len(reason.times) == 1:
+            reason.hold = [it for it in count.members if self.holds(it, reason.times[0])]
+        return reason
+
+    def holds(self, member: Bare, time: int) -> bool:
+        ref, denied = member
+        part = self.source.verdicts.by_ref.get(ref)
+        return part is not None and part.low <= time <= part.high and part.at(time) == (FALSE if denied else TRUE)
 
     def merged(self, ref: str, denied: bool, below: Below) -> list[Reason]:
         """The parts below. A conjunction within a conjunction gives way to its own, and what no row decides is left out
@@ -132,7 +166,8 @@ def union(reasons: list[Reason]) -> frozenset[Cell]:
 class Explainer:
     """Explains verdicts of one output of a program over a trace."""
 
-    def __init__(self, made: Compiled, told: Requirement, folder: Path) -> None:
+    def __init__(self, made: Compiled, told: Requirement, folder: Path, seconds: float = 5.0) -> None:
+        self.seconds = seconds
         self.made, self.told, self.shown = made, told, made.shown
         self.parts = Parts(made.shown, told)
         self.columns = made.program.columns()
@@ -204,11 +239,11 @@ class Explainer:
         reasons = in_order([tree.reason(ref, need, {time}) for ref, need in roots])
         least = self.least(window, verdicts, at, time)
         cells = least.least(union(reasons))
-        return Explanation(word, time, reasons, cells, tree.leaves(reasons), least.needed)
+        return Explanation(word, time, reasons, cells, tree.leaves(reasons), least.needed, least.is_cut)
 
     def least(self, window: TraceWindow, verdicts: Verdicts, at: list[tuple[str, int]], time: int) -> LeastCells:
         spans = {ref: (part.low, part.high) for ref, part in verdicts.by_ref.items()}
         cells = Cells(window, self.signals)
         actual = {(name, row): int(cells.value(name, row)) for name in self.parts.signals for row in cells.by_time}
         origin = min(low for low, _ in spans.values())
-        return LeastCells(self.watch, self.columns, verdicts, at, time, actual, origin, spans)
+        return LeastCells(self.watch, self.columns, verdicts, at, time, actual, origin, spans, seconds=self.seconds)

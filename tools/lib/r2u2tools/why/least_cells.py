@@ -9,6 +9,7 @@ out otherwise, that is a further case, and row_values finds values for it, or th
 from __future__ import annotations
 
 from dataclasses import dataclass, field
+from time import monotonic
 from typing import Mapping, Optional, Sequence
 
 from r2u2tools.common.cli import Trouble
@@ -40,22 +41,27 @@ class LeastCells:
     origin: int
     spans: dict[str, tuple[int, int]]
     needed: dict[Cell, Rows] = field(default_factory=dict)
+    seconds: float = 5.0
     runs: int = 0
+    is_cut: bool = False
 
     def __post_init__(self) -> None:
         self.parts: Parts = self.watch.parts
         self.shown, self.word = self.parts.shown, self.verdicts.word(self.time)
         self.times = range(self.origin, self.time + self.parts.ahead + 1)
+        self.end = monotonic() + self.seconds
         self.known: dict[tuple[tuple[tuple[str, int], ...], tuple[tuple[str, int], ...]], Optional[Values]] = {}
         size = sum(high - low + 1 for low, high in self.spans.values())
         self.most_runs = min(MOST_RUNS, 100 * MOST_SIZE // max(1, size)) if size <= MOST_SIZE else 0
 
     def least(self, cells: frozenset[Cell]) -> frozenset[Cell]:
-        """Those of some cells that decide the verdict without the others."""
+        """Those of some cells that decide the verdict without the others; when the time is up, what was found."""
         if len(cells) > MOST_CELLS:
             return cells
         for cell in sorted(cells, key=lambda cell: (cell[1], cell[0])):
             rest = cells - {cell}
+            if self.is_cut:
+                break
             try:
                 found = self.other_verdict(rest)
             except Unknown:
@@ -72,6 +78,9 @@ class LeastCells:
         is_open = False
         while left:
             case = left.pop()
+            self.is_cut = monotonic() > self.end
+            if self.is_cut:
+                raise Unknown
             try:
                 rows = self.rows_of(case, kept)
             except Unknown:

@@ -8,14 +8,16 @@ until it fits.
 from __future__ import annotations
 
 from dataclasses import dataclass, field
-from typing import Iterator, Mapping, Optional
+from operator import add, eq, le, lt, mul, sub
+from random import Random
+from typing import Callable, Iterator, Mapping, Optional
 
 from r2u2tools.common.program_text import Node, ProgramText
 from r2u2tools.why.omega import NUMBER, Omega, Sum, Unknown, Values, added, value_of
 from r2u2tools.why.part_verdicts import TRUE
 
 LEAST, GREATEST = -(1 << 31), (1 << 31) - 1
-MOST_STEPS, MOST_CUTS = 3000, 80
+MOST_STEPS, MOST_CUTS, TRIALS = 3000, 80, 100
 TIMES = "*"
 Range = tuple[int, int]
 
@@ -192,10 +194,40 @@ def fits(name: str, values: Values) -> bool:
 def row_values(shown: ProgramText, words: Mapping[str, int], fixed: Mapping[str, int]) -> Optional[Values]:
     """Values of the signals that comparisons read, by which these have some words; None where there are none.
 
-    Raises Unknown where neither is found within the steps that are tried.
+    Raises Unknown where neither is found within the steps that are tried. That there are none is believed when values at
+    random fulfil them neither.
     """
     row = Row(shown, fixed)
     for ref, word in words.items():
         row.ask(ref, word)
     found = Search(row).found()
-    return None if found is None else {name: value for name, value in found.items() if name in shown.signals}
+    if found is None:
+        return at_random(shown, words, fixed)
+    return {name: value for name, value in found.items() if name in shown.signals}
+
+
+def at_random(shown: ProgramText, words: Mapping[str, int], fixed: Mapping[str, int]) -> Optional[Values]:
+    """Values near the constants of some comparisons by which these have their words; None when no trial has."""
+    below, dice = shown.below(*words), Random(len(words))
+    near = {int(ref) + k for ref in below if ref.lstrip("-").isdigit() for k in (-1, 0, 1)} | {*range(-9, 10)}
+    choice = sorted(value for value in near if LEAST <= value <= GREATEST)
+    names = [name for name in shown.signals if name in below and name not in fixed]
+    for _ in range(TRIALS if names else 1):
+        values = {name: dice.choice(choice) for name in names}
+        if all(computed(shown, ref, {**values, **fixed}) == word for ref, word in words.items()):
+            return values
+    return None
+
+
+SIGNS: dict[str, Callable[[int, int], int]] = {
+    "+": add, "-": sub, "*": mul, "/": quotient, "%": lambda one, by: one - by * quotient(one, by), "==": eq, "<": lt, "<=": le,
+}
+
+
+def computed(shown: ProgramText, ref: str, values: Mapping[str, int]) -> int:
+    """What a number or a comparison is over the values of signals."""
+    node = shown.nodes.get(ref)
+    if node is None:
+        return values[ref] if ref in values else int(ref)
+    sides = [computed(shown, operand, values) for operand in node.operands()]
+    return int(SIGNS[node.op](*sides)) if node.right else -sides[0]

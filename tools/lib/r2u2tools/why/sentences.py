@@ -6,7 +6,7 @@ from itertools import groupby
 from typing import Iterator, Sequence
 
 from r2u2tools.common.expressions import COMPARISONS, shortened
-from r2u2tools.common.program_text import ProgramText
+from r2u2tools.common.program_text import Bare, Count, ProgramText
 from r2u2tools.why.deciding import Cell
 from r2u2tools.why.explanation import DENIED, Explanation, Reason
 from r2u2tools.why.part_verdicts import FALSE, TRUE, UNKNOWN
@@ -89,8 +89,16 @@ class Sentences:
         return f"{shortened(text)} {SAYS[word]} {self.at(reason.times, 'time')}{self.note(reason)}"
 
     def note(self, reason: Reason) -> str:
-        """Why a window of the past without rows has its word."""
+        """How many members hold of a quantifier that counts; why a window of the past without rows has its word."""
+        if reason.count and len(reason.times) == 1:
+            return f": {self.tally(reason.hold, reason.count)}"
         return "" if reason.below else ": no row lies so far back"
+
+    def tally(self, hold: list[Bare], count: Count) -> str:
+        """As `2 of 3 hold: x, y; the quantifier takes at least 3`."""
+        told = [shortened(self.worded(ref, denied, TRUE)[0], 30) for ref, denied in hold[:MOST_LEAVES]]
+        names = f": {', '.join(told)}{', ..' * (len(hold) > MOST_LEAVES)}" if told else ""
+        return f"{len(hold)} of {len(count.members)} hold{names}; the quantifier takes {count.wanted()}"
 
     def line(self, reason: Reason) -> str:
         return self.leaf(reason) if self.shown.is_leaf(reason.ref) else self.inner(reason)
