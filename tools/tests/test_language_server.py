@@ -6,6 +6,7 @@ import shutil
 import signal
 import subprocess
 import sys
+import time
 import unittest
 import zipfile
 
@@ -206,8 +207,49 @@ class Server(Case):
         found = self.editor.ask("textDocument/documentSymbol", textDocument={"uri": URI})["result"]
         self.assertEqual([it["name"] for it in found], "Unit p q x hot limit soon was u s f g h".split())
 
+    def test_references_and_another_name(self):
+        self.editor.open(TEXT)
+        found = self.ask("references", TEXT, "q: bool", context={"includeDeclaration": True})
+        self.assertEqual([it["range"]["start"]["line"] for it in found], [2, 6, 8 + 1])
+        self.assertEqual(len(self.ask("references", TEXT, "q: bool", context={"includeDeclaration": False})), 2)
+        self.assertEqual([it["range"]["start"]["line"] for it in self.ask("references", TEXT, "load <")], [1, 12])
+        (edits,) = self.ask("rename", TEXT, "soon;", newName="later")["changes"].values()
+        self.assertEqual([(it["range"]["start"]["line"], it["newText"]) for it in edits], [(6, "later"), (11, "later")])
+        for name in ("p", "F", "2x", ""):
+            given = {"textDocument": {"uri": URI}, "position": spot(TEXT, "soon;"), "newName": name}
+            self.assertEqual(self.editor.ask("textDocument/rename", **given)["error"]["code"], -32602)
+        self.assertIsNone(self.ask("rename", TEXT, "Kommentar", newName="later"))
+
+    def test_what_was_meant_as_an_edit(self):
+        text = TEXT.replace("-> soon", "-> son")
+        self.editor.open(text)
+        (fault,) = self.editor.faults()
+        given = {"textDocument": {"uri": URI}, "range": fault["range"], "context": {"diagnostics": [fault]}}
+        (action,) = self.editor.ask("textDocument/codeAction", **given)["result"]
+        self.assertEqual(action["edit"]["changes"][URI], [{"range": fault["range"], "newText": "soon"}])
+        start = {"line": 0, "character": 0}
+        self.assertEqual(self.editor.ask("textDocument/codeAction", **{**given, "range": {"start": start, "end": start}})["result"], [])
+
+    def test_a_text_that_is_too_long(self):
+        self.editor.open("INPUT p: bool;\n" + "FTSPEC f: p;\n" * 160_000)
+        (fault,) = self.editor.faults()
+        self.assertIn("longer than 1048576 bytes", fault["message"])
+        given = {"textDocument": {"uri": URI}, "position": {"line": 0, "character": 7}}
+        self.assertEqual(self.editor.ask("textDocument/hover", **given)["error"]["code"], -32603)
+
+    def test_a_newer_text_ends_a_check(self):
+        text = "INPUT p: bool;\nFTSPEC\n" + "".join(f"f{k}: p && F[0,{k % 50}] no{k};\n" for k in range(9000))
+        began = time.monotonic()
+        self.editor.open(text)
+        time.sleep(0.3)
+        self.assertEqual(len(self.editor.ask("textDocument/documentSymbol", textDocument={"uri": URI})["result"]), 9001)
+        self.editor.open(TEXT.replace("-> soon", "-> son"))
+        (fault,) = self.editor.faults()
+        self.assertIn("son", fault["message"])
+        self.assertLess(time.monotonic() - began, 30)
+
     def test_what_it_cannot_serve(self):
-        self.assertEqual(self.editor.ask("textDocument/rename")["error"]["code"], -32601)
+        self.assertEqual(self.editor.ask("textDocument/moniker")["error"]["code"], -32601)
         self.assertEqual(self.editor.ask("textDocument/hover")["error"]["code"], -32602)
         self.assertEqual(self.editor.ask("textDocument/hover", textDocument={"uri": "file:///other"})["error"]["code"], -32602)
         self.editor.tell("$/unknown")

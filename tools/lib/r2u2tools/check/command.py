@@ -18,8 +18,8 @@ refuses. SPEC may be `-`, the standard input.
 line ends stay, and the compiled program is the same.
 
 --server is a language server over the standard input and output, for editors:
-faults as one types, kind and cost of the name under the pointer, definitions,
-completion and layout.
+faults as one types, and what was meant as an edit; kind and cost of the name under
+the pointer, definitions, references, another name, completion and layout.
 
 The exit code is 0 where c2po takes all, 1 where it refuses one, or where
 --diff found other blanks, and 2 where a file can't be read or c2po isn't there.
@@ -34,11 +34,9 @@ from pathlib import Path
 from r2u2tools.check import layout, report
 from r2u2tools.check.faults import check
 from r2u2tools.check.server import Server
-from r2u2tools.check.source import decoded, encoded
+from r2u2tools.check.source import LARGEST, decoded, encoded
 from r2u2tools.common import cli
 from r2u2tools.common.specs import MAGIC
-
-LARGEST = 1 << 20
 
 
 def asked() -> Namespace:

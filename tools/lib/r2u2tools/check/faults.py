@@ -72,7 +72,7 @@ class Report:
 
 def ask(text: str) -> Answer:
     """What c2po says of a text."""
-    status, _, message = ran([program("c2po"), "-o", "/dev/null", "-"], input=encoded(text))
+    status, _, message = ran([program("c2po"), "-o", "/dev/null", "-"], encoded(text))
     if status not in (0, *OF_THE_TEXT):
         raise Trouble(message.removeprefix("c2po: ") or f"c2po ended with status {status}")
     return Answer(status, message.removeprefix("c2po: "))

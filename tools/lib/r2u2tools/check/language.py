@@ -1,17 +1,18 @@
 """What an editor asks of a specification: the name under the pointer, where it is declared, and what may be typed."""
 
 import json
+import subprocess
 import tempfile
 from dataclasses import dataclass
 from pathlib import Path
 from typing import Any, Dict, Iterator, List, Optional, Tuple
 
 from r2u2tools.check.faults import Report, ask, spread
-from r2u2tools.check.source import RESERVED, Item, Token
+from r2u2tools.check.source import RESERVED, Item, Source, Token
 from r2u2tools.common.cli import Trouble
 from r2u2tools.common.programs import ran, tool
 
-SECONDS = 20
+SECONDS = 5
 # What keywords and operators mean, each in a line, and what is typed for those with arguments.
 MEANINGS = {
     "STRUCT": "a section of types with named parts",
@@ -64,10 +65,10 @@ class Known:
 
 
 class Document:
-    """A specification that an editor has open, with what was found in it."""
+    """A specification that an editor has open, with what was found in it once it is checked."""
 
-    def __init__(self, report: Report):
-        self.report, self.source = report, report.source
+    def __init__(self, source: Source, report: Optional[Report] = None):
+        self.source, self.report = report.source if report else source, report
         self.costs: Dict[str, str] = {}
 
     def hover(self, place: int) -> Optional[Tuple[Token, str]]:
@@ -119,6 +120,8 @@ class Document:
 
     def defined(self, name: str, item: Item, text: str) -> Tuple[str, str, str]:
         """The kind of a definition, as c2po takes it, and its cost where it is a formula."""
+        if self.report is None:
+            return "a definition", text, ""
         told, past = self.asked(name, "FTSPEC"), False
         if told == "mixed tense":
             told, past = self.asked(name, "PTSPEC"), True
@@ -133,7 +136,11 @@ class Document:
         while label in self.source.text:
             label += "_"
         self.label = label
-        return f"{spread(self.report.sound)[0]}\n{section} {label}: {formula};\n"
+        return f"{self.sound()}\n{section} {label}: {formula};\n"
+
+    def sound(self) -> str:
+        """The items that c2po takes, as a text."""
+        return spread(self.report.sound)[0] if self.report else ""
 
     def asked(self, formula: str, section: str) -> str:
         """What c2po finds wrong with one more output; nothing where it takes it."""
@@ -141,8 +148,10 @@ class Document:
 
     def cost(self, name: str, section: str = "") -> str:
         """The delay of an output, or of a definition as one, and what it takes, as r2u2-budget has it."""
+        if self.report is None:
+            return ""
         if name not in self.costs:
-            text = self.with_output(section, name) if section else spread(self.report.sound)[0]
+            text = self.with_output(section, name) if section else self.sound()
             self.costs[name] = cost_of(text, self.label if section else name)
         return self.costs[name]
 
@@ -152,10 +161,16 @@ class Document:
         item = self.source.item_of(token) if token else None
         if token is None or item is None or not token.is_name():
             return []
-        if self.follows_point(token):
+        if self.follows_point(token) or token in [name for name, _ in item.fields()]:
             return [name for owner in self.source.items for name, _ in owner.fields() if name.text == token.text]
         own = [it for it in item.variables() if it.text == token.text and it.start <= token.start]
         return own[-1:] or [it for it in self.source.declared().values() if it.text == token.text]
+
+    def references(self, place: int) -> List[Token]:
+        """All places of the name at a place, with its declaration."""
+        token, wanted = self.source.at(place), self.definitions(place)
+        alike = [it for it in self.source.tokens if token and it.text == token.text]
+        return [it for it in alike if wanted and self.definitions(it.start) == wanted]
 
     def completion(self, place: int) -> Iterator[Dict[str, Any]]:
         """What may be typed at a place: parts after a point, otherwise keywords and the names before it."""
@@ -199,7 +214,7 @@ def cost_of(text: str, name: str) -> str:
         try:
             _, out, _ = ran([*tool("budget"), "--json", "--top", "0", str(spec)], timeout=SECONDS)
             outputs = json.loads(out)["outputs"] if out else []
-        except (Trouble, ValueError, KeyError, TimeoutError):
+        except (Trouble, ValueError, KeyError, subprocess.TimeoutExpired):
             return ""
     for it in outputs:
         if it["name"] == name:

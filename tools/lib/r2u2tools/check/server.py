@@ -1,23 +1,30 @@
 """A language server by its protocol: messages of JSON over two streams, and the requests that an editor makes.
 
-Lines and columns of the protocol count from 0, and columns count units of UTF-16.
+A text is checked in a process by itself, which a newer text ends, so that requests are served meanwhile. Lines and columns of the protocol count from 0, and columns count units of UTF-16.
 """
 
 import json
+import multiprocessing
+import os
 import queue
+import re
 import subprocess
 import threading
-from typing import Any, BinaryIO, Callable, Dict, List, Optional, Set
+from multiprocessing.connection import Connection
+from typing import Any, BinaryIO, Callable, Dict, List, Optional, Set, Union
 
-from r2u2tools.check.faults import Fault, check
+from r2u2tools.check.faults import Fault, Report, check
 from r2u2tools.check.language import Document
 from r2u2tools.check.layout import laid_out
-from r2u2tools.check.source import Token
+from r2u2tools.check.source import LARGEST, NAME, RESERVED, Token, encoded, read
 from r2u2tools.common.cli import Trouble
 
 LONGEST = 1 << 24
 UNKNOWN, WRONG, FAILED, NOT_YET = -32601, -32602, -32603, -32002
-QUIET = 0.05
+# After how many seconds a changed text is checked, a check is told as a progress, and a request goes on without it.
+QUIET, SLOW, PATIENT = 0.05, 1.0, 10.0
+FORK = multiprocessing.get_context("fork")
+MEANT = re.compile(r"did you mean '([^']+)'\?")
 Message = Dict[str, Any]
 
 ABILITIES = {
@@ -27,6 +34,9 @@ ABILITIES = {
     "completionProvider": {"triggerCharacters": ["."]},
     "documentFormattingProvider": True,
     "documentSymbolProvider": True,
+    "referencesProvider": True,
+    "renameProvider": True,
+    "codeActionProvider": {"codeActionKinds": ["quickfix"]},
 }
 
 
@@ -95,6 +105,41 @@ def read_message(stream: BinaryIO) -> Optional[Message]:
     return found if isinstance(found, dict) else {}
 
 
+class Checking:
+    """A check of a text in a process by itself. It puts itself into a queue when it takes long, and when it has ended."""
+
+    def __init__(self, uri: str, text: str, incoming: "queue.Queue[Any]"):
+        self.uri, self.incoming = uri, incoming
+        self.report: Optional[Report] = None
+        self.fault = "the check ended without an answer"
+        self.ended, self.is_told = threading.Event(), False
+        reader, writer = FORK.Pipe(duplex=False)
+        self.process = FORK.Process(target=checked, args=(text, writer), daemon=True)
+        self.process.start()
+        writer.close()
+        threading.Thread(target=self.listen, args=(reader,), daemon=True).start()
+
+    def listen(self, reader: Connection) -> None:
+        try:
+            if not reader.poll(SLOW):
+                self.incoming.put(self)
+            self.report, self.fault = reader.recv()
+        except (EOFError, OSError):
+            pass
+        self.ended.set()
+        self.incoming.put(self)
+
+
+def checked(text: str, writer: Connection) -> None:
+    """The work of that process."""
+    try:
+        writer.send((check(text), ""))
+    except (Trouble, OSError, subprocess.SubprocessError) as fault:
+        writer.send((None, str(fault)))
+    except BaseException:
+        os._exit(1)
+
+
 class Server:
     """Serves one editor until it says exit, or its stream ends."""
 
@@ -103,8 +148,9 @@ class Server:
         self.texts: Dict[str, str] = {}
         self.documents: Dict[str, Document] = {}
         self.changed: Set[str] = set()
-        self.began = self.ended = False
-        self.incoming: "queue.Queue[Optional[Message]]" = queue.Queue()
+        self.running: Dict[str, Checking] = {}
+        self.began = self.ended = self.shows_progress = False
+        self.incoming: "queue.Queue[Union[Message, Checking, None]]" = queue.Queue()
         self.requests: Dict[str, Callable[[Message], Any]] = {
             "shutdown": self.shutdown,
             "textDocument/hover": self.hover,
@@ -112,6 +158,9 @@ class Server:
             "textDocument/completion": self.completion,
             "textDocument/formatting": self.formatting,
             "textDocument/documentSymbol": self.symbols,
+            "textDocument/references": self.references,
+            "textDocument/rename": self.rename,
+            "textDocument/codeAction": self.actions,
         }
 
     def run(self) -> int:
@@ -121,7 +170,10 @@ class Server:
             try:
                 message = self.incoming.get(timeout=QUIET if self.changed else None)
             except queue.Empty:
-                self.publish()
+                self.start()
+                continue
+            if isinstance(message, Checking):
+                self.answered(message)
                 continue
             if message is None or message.get("method") == "exit":
                 return 0 if self.ended else 1
@@ -164,6 +216,7 @@ class Server:
     def result(self, method: str, given: Message) -> Any:
         if method == "initialize":
             self.began = True
+            self.shows_progress = bool(((given.get("capabilities") or {}).get("window") or {}).get("workDoneProgress"))
             return {"capabilities": ABILITIES, "serverInfo": {"name": "r2u2-check"}}
         if not self.began:
             raise Wrong(NOT_YET, "initialize comes first")
@@ -184,35 +237,76 @@ class Server:
             return
 
     def set(self, uri: str, text: str) -> None:
+        self.forget(uri)
         self.texts[uri] = str(text)
-        self.documents.pop(uri, None)
         self.changed.add(uri)
 
     def close(self, uri: str) -> None:
+        self.forget(uri)
+        self.send_faults(uri, [])
+
+    def forget(self, uri: str) -> None:
+        """Ends what is done for a text that is no longer there."""
         self.texts.pop(uri, None)
         self.documents.pop(uri, None)
         self.changed.discard(uri)
-        self.send({"method": "textDocument/publishDiagnostics", "params": {"uri": uri, "diagnostics": []}})
+        if uri in self.running:
+            self.running.pop(uri).process.terminate()
 
-    def publish(self) -> None:
-        """Sends the faults of all texts that changed."""
+    def start(self) -> None:
+        """Begins to check all texts that changed."""
         for uri in sorted(self.changed):
-            try:
-                report = self.document(uri).report
-                lines = report.source.lines()
-                found = [diagnostic(lines, fault) for fault in report.faults]
-            except (Trouble, OSError, subprocess.SubprocessError) as fault:
-                start = {"line": 0, "character": 0}
-                found = [{"range": {"start": start, "end": start}, "severity": 2, "source": "r2u2-check", "message": str(fault)}]
-            self.send({"method": "textDocument/publishDiagnostics", "params": {"uri": uri, "diagnostics": found}})
+            if len(encoded(self.texts[uri])) > LARGEST:
+                self.send_faults(uri, [remark(f"longer than {LARGEST} bytes: c2po takes no such text")])
+            else:
+                self.running[uri] = Checking(uri, self.texts[uri], self.incoming)
         self.changed.clear()
+
+    def answered(self, it: Checking) -> None:
+        """Sends the faults of a text that was checked; of a check that takes long, that it goes on."""
+        if it.ended.is_set():
+            self.progress(it, "end")
+        if self.running.get(it.uri) is not it:
+            return
+        if not it.ended.is_set():
+            self.progress(it, "begin")
+            return
+        del self.running[it.uri]
+        if it.report is None:
+            self.send_faults(it.uri, [remark(it.fault)])
+            return
+        self.documents[it.uri] = Document(it.report.source, it.report)
+        lines = it.report.source.lines()
+        self.send_faults(it.uri, [diagnostic(lines, fault) for fault in it.report.faults])
+
+    def progress(self, it: Checking, kind: str) -> None:
+        if not self.shows_progress or it.is_told == (kind == "begin"):
+            return
+        token, it.is_told = f"check-{id(it)}", kind == "begin"
+        if it.is_told:
+            self.send({"id": token, "method": "window/workDoneProgress/create", "params": {"token": token}})
+        value = {"kind": kind} | ({"title": "r2u2-check", "message": it.uri.rpartition("/")[2]} if it.is_told else {})
+        self.send({"method": "$/progress", "params": {"token": token, "value": value}})
+
+    def send_faults(self, uri: str, found: List[Message]) -> None:
+        self.send({"method": "textDocument/publishDiagnostics", "params": {"uri": uri, "diagnostics": found}})
 
     def document(self, uri: str) -> Document:
         if uri not in self.texts:
             raise Wrong(WRONG, f"no text {uri} is open")
+        if len(self.texts[uri]) > LARGEST:
+            raise Wrong(FAILED, f"longer than {LARGEST} bytes")
         if uri not in self.documents:
-            self.documents[uri] = Document(check(self.texts[uri]))
+            self.documents[uri] = Document(read(self.texts[uri]))
         return self.documents[uri]
+
+    def settled(self, given: Message) -> Document:
+        """The text of a request with what was found in it, where that doesn't take too long."""
+        uri = given["textDocument"]["uri"]
+        self.start()
+        if (it := self.running.get(uri)) and it.ended.wait(PATIENT):
+            self.answered(it)
+        return self.document(uri)
 
     def asked(self, given: Message) -> Document:
         return self.document(given["textDocument"]["uri"])
@@ -221,7 +315,7 @@ class Server:
         self.ended = True
 
     def hover(self, given: Message) -> Optional[Message]:
-        document = self.asked(given)
+        document = self.settled(given)
         found = document.hover(place_of(document.source.text, given["position"]))
         if found is None:
             return None
@@ -246,6 +340,37 @@ class Server:
         end = position(lines, len(lines), len(lines[-1]))
         return [] if new == text else [{"range": {"start": {"line": 0, "character": 0}, "end": end}, "newText": new}]
 
+    def references(self, given: Message) -> List[Message]:
+        document, uri = self.asked(given), given["textDocument"]["uri"]
+        place, lines = place_of(document.source.text, given["position"]), document.source.lines()
+        found = document.references(place)
+        if not (given.get("context") or {}).get("includeDeclaration", True):
+            found = [it for it in found if it not in document.definitions(place)]
+        return [{"uri": uri, "range": range_of(lines, token)} for token in found]
+
+    def rename(self, given: Message) -> Optional[Message]:
+        document, name = self.asked(given), str(given["newName"])
+        if not NAME.fullmatch(name) or name in RESERVED:
+            raise Wrong(WRONG, f"{name} can't be a name")
+        if any(token.text == name for token in document.source.tokens):
+            raise Wrong(WRONG, f"{name} is a name already")
+        found = self.references({**given, "context": {}})
+        return {"changes": {it["uri"]: [edit(its["range"], name) for its in found] for it in found[:1]}} if found else None
+
+    def actions(self, given: Message) -> List[Message]:
+        """The names that were meant, as edits."""
+        document, uri = self.settled(given), given["textDocument"]["uri"]
+        lines, wanted = document.source.lines(), given["range"]
+        found = []
+        for fault in document.report.faults if document.report else ():
+            told = diagnostic(lines, fault)
+            first, last = (tuple(told["range"][end].values()) for end in ("start", "end"))
+            if first <= tuple(wanted["end"].values()) and tuple(wanted["start"].values()) <= last:
+                for name in MEANT.findall(fault.text()):
+                    changes = {"changes": {uri: [edit(told["range"], name)]}}
+                    found.append({"title": f"Write {name}", "kind": "quickfix", "diagnostics": [told], "edit": changes})
+        return found
+
     def symbols(self, given: Message) -> List[Message]:
         """The names that a text declares, for the outline of an editor."""
         source = self.asked(given).source
@@ -260,3 +385,13 @@ def diagnostic(lines: List[str], fault: Fault) -> Message:
     text = fault.text() + (f"\n{fault.note.text()}" if fault.note else "")
     place = span(lines, fault.line, fault.column, fault.length)
     return {"range": place, "severity": 1, "code": fault.what, "source": "c2po", "message": text}
+
+
+def remark(text: str) -> Message:
+    """What is said of a whole text."""
+    start = {"line": 0, "character": 0}
+    return {"range": {"start": start, "end": start}, "severity": 2, "source": "r2u2-check", "message": text}
+
+
+def edit(place: Message, text: str) -> Message:
+    return {"range": place, "newText": text}

@@ -8,6 +8,8 @@ from r2u2tools.common.specs import SECTIONS, TOKEN
 
 RESERVED = (*SECTIONS, *"bool int set true false foreach forsome forexactly foratleast foratmost F G U R S O H".split())
 QUANTIFIERS = ("foreach", "forsome", "forexactly", "foratleast", "foratmost")
+# How many bytes of a specification c2po takes.
+LARGEST = 1 << 20
 NAME = re.compile(r"[A-Za-z_][A-Za-z0-9_]*")
 
 

@@ -6,8 +6,9 @@ import os
 import shutil
 import subprocess
 import sys
+import tempfile
 from pathlib import Path
-from typing import Any, Sequence
+from typing import Any, Optional, Sequence
 
 from r2u2tools.common.cli import Trouble, note
 
@@ -43,12 +44,18 @@ def tool(name: str) -> list[str]:
     return [sys.executable, "-Bc", load, name]
 
 
-def ran(words: Sequence[str], **more: Any) -> tuple[int, bytes, str]:
-    """A run to its end: its status, its output as bytes, and its message as one line."""
-    try:
-        done = subprocess.run(words, stdout=subprocess.PIPE, stderr=subprocess.PIPE, **more)
-    except OSError as fault:
-        raise Trouble(f"cannot run {words[0]}: {fault.strerror}") from None
+def ran(words: Sequence[str], give: Optional[bytes] = None, **more: Any) -> tuple[int, bytes, str]:
+    """A run to its end: its status, its output as bytes, and its message as one line. What it is given is a file: a program
+    that doesn't read all of a pipe would end this one by a signal."""
+    with tempfile.TemporaryFile() as file:
+        if give is not None:
+            file.write(give)
+            file.seek(0)
+            more["stdin"] = file
+        try:
+            done = subprocess.run(words, stdout=subprocess.PIPE, stderr=subprocess.PIPE, **more)
+        except OSError as fault:
+            raise Trouble(f"cannot run {words[0]}: {fault.strerror}") from None
     return done.returncode, done.stdout, message(done.stderr)
 
 
