@@ -19,6 +19,9 @@ class Clauses(unittest.TestCase):
         self.assertIn("r2u2_monitor: Monitor::step: steps_over, rest, drained, ready, cause, same, unwritten, counted\n", out)
         self.assertIn("r2u2_monitor: most_reports: most, few\n    Returns the most reports", out)
 
+    def test_exported_calls(self):
+        self.assertIn("r2u2_c: r2u2_open: opens, already, refused, kept, untold, codes\n    Opens the program", printed("r2u2_c")[1])
+
     def test_the_text_of_a_clause(self):
         self.assertIn("        ensures counted { steps.new ≤ steps.old + row_work", printed("--full", "r2u2_monitor")[1])
 
