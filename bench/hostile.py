@@ -5,6 +5,7 @@
     bench/hostile.py build/c2po build/r2u2 --only iffs       those of this name
     bench/hostile.py build/c2po build/r2u2 --plain           no options: c2po SPEC and r2u2 PROGRAM alone
     bench/hostile.py build/c2po build/r2u2 --stack           the least stack too, within 16 KiB, by runs with less and less
+    bench/hostile.py build/c2po build/r2u2 --rows            a row for each input as bench/README.md has it: the most of its runs
     bench/hostile.py --list
 
 Texts are compiled as they are, with --table, with --simplify, with a header, and run by r2u2 --source over an empty trace,
@@ -128,17 +129,28 @@ def shown_words(words):
     return ' '.join([os.path.basename(words[0]), *(word for word in words[1:] if word.startswith('--'))])
 
 
-def show(asked, name, runs):
+def row_of(it, takings):
+    """The row of bench/README.md: an input, and the most seconds and MB of its runs."""
+    most = [max(getattr(taken, what) for taken in takings) for what in ('user', 'peak')]
+    return '| `%s` | %s | %.1f | %.0f |' % (it.name, it.shows, *most)
+
+
+def show(asked, it, runs):
     """Measures and prints runs, and says whether one was past a bound."""
-    past = False
+    past, takings = False, []
     for run in runs:
         words = run.words
         taken = taken_by(words, asked.seconds)
         said = judged(taken, run)
         past = past or bool(said)
+        takings.append(taken)
+        if asked.rows:
+            continue
         stack = ' %6d' % least_stack(words, asked.seconds) if asked.stack else ''
         print('%-17s %-18s %8.2f %8.1f %6d%s  %s' % (
-            name, shown_words(words), taken.user, taken.peak, taken.status, stack, said), flush=True)
+            it.name, shown_words(words), taken.user, taken.peak, taken.status, stack, said), flush=True)
+    if asked.rows:
+        print(row_of(it, takings), flush=True)
     return past
 
 
@@ -147,11 +159,11 @@ def measure_all(asked, folder):
     for text in hostile_texts.TEXTS:
         if not asked.only or text.name in asked.only:
             path = written(folder, text.name + '.c2po', text.make())
-            past = show(asked, text.name, runs_of_text(asked, folder, path)) or past
+            past = show(asked, text, runs_of_text(asked, folder, path)) or past
     for it in hostile_programs.PROGRAMS:
         if not asked.only or it.name in asked.only:
             path = program_file(asked, folder, it)
-            past = show(asked, it.name, runs_of_program(asked, folder, it, path)) or past
+            past = show(asked, it, runs_of_program(asked, folder, it, path)) or past
     return past
 
 
@@ -162,6 +174,7 @@ def main():
     parser.add_argument('--only', action='append', metavar='NAME')
     parser.add_argument('--plain', action='store_true')
     parser.add_argument('--stack', action='store_true')
+    parser.add_argument('--rows', action='store_true')
     parser.add_argument('--list', action='store_true')
     parser.add_argument('--seconds', type=int, default=60)
     asked = parser.parse_args()
@@ -171,7 +184,8 @@ def main():
         return 0
     if not asked.monitor or not set(asked.only or ()) <= set(known):
         parser.error('two programs are needed, and the names of --list')
-    print('%-17s %-18s %8s %8s %6s%s' % ('input', 'run', 'user s', 'peak MB', 'code', '  stack' * asked.stack))
+    if not asked.rows:
+        print('%-17s %-18s %8s %8s %6s%s' % ('input', 'run', 'user s', 'peak MB', 'code', '  stack' * asked.stack))
     with tempfile.TemporaryDirectory(prefix='hostile-') as folder:
         return 1 if measure_all(asked, folder) else 0
 

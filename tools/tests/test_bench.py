@@ -78,3 +78,13 @@ class Texts(Case):
             for text in hostile_texts.TEXTS:
                 if text.name not in self.SEARCHED:
                     self.compiled(text.make(), text.name)
+
+
+class Hostile(Case):
+    def test_rows_of_the_page(self):
+        """A row has an input, what it asks for, and the most of its runs."""
+        ran = subprocess.run(
+            [sys.executable, str(BENCH / "hostile.py"), "/bin/true", "/bin/true", "--rows", "--only", "valves"],
+            stdout=subprocess.PIPE, encoding="utf-8",
+        )
+        self.assertRegex(ran.stdout, r"^\| `valves` \| .+ \| 0\.0 \| \d+ \|\n$")
