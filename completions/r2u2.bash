@@ -9,7 +9,7 @@ _r2u2_options() {
         r2u2-probe) echo --timed --json --no-margins --fail-untried --least-noticed --help ;;
         r2u2-convert) echo --mission --rate --spec --scale --signals --write-signals --ids -o --help ;;
         r2u2-generate) echo --handlers --on --keep-rows --signals -o --help ;;
-        r2u2-check) echo --json --sarif --format --diff --write --server --help ;;
+        r2u2-check) echo --json --sarif --timed --format --diff --write --server --help ;;
         r2u2-play) echo --port --no-browser --timed --help ;;
         r2u2-timeline) echo --html --trace --spec --all-columns --changing --from --to --unit --rate --ticks --title -o --help ;;
         r2u2-trace) echo --spec --columns --signals --names --rename --scale --map --round --hex --missing --within --time --rate \

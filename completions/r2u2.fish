@@ -60,6 +60,7 @@ complete -c r2u2-generate -l help -d 'Help'
 
 complete -c r2u2-check -l json -d 'Print JSON'
 complete -c r2u2-check -l sarif -d 'Print SARIF'
+complete -c r2u2-check -l timed -d 'The rows have stamps'
 complete -c r2u2-check -l format -d 'Print the specification with its blanks set in one way'
 complete -c r2u2-check -l diff -d 'Print what would change'
 complete -c r2u2-check -l write -d 'Change the file'

@@ -12,7 +12,9 @@ from support import ROOT, Case, program, tool
 from r2u2tools.check import grammar, notes, report
 from r2u2tools.check.faults import check
 from r2u2tools.check.layout import laid_out
+from r2u2tools.check.rewrites import rewritten
 from r2u2tools.check.source import read
+from r2u2tools.check.trace import check_trace
 
 EXAMPLES = sorted((ROOT / "examples").glob("**/*.c2po"))
 PRELUDE = "STRUCT Unit: { load: int; off: bool; };\nINPUT p, q: bool; x, y: int;\nDEFINE u := Unit(x, p);\n"
@@ -82,7 +84,7 @@ class Faults(Case):
             with self.subTest(wrong):
                 found = check(PRELUDE * (not row.rule.startswith("nothing names")) + wrong + "\n")
                 self.assertEqual(found.faults[0].what, what)
-                self.assertEqual(found.faults[0].note, row)
+                self.assertIn(found.faults[0].note, (row, rewritten(wrong)))
 
     def test_c2po_has_the_last_word(self):
         """Over texts that were spoilt at random: check refuses just those that c2po does, and has its fault."""
@@ -186,6 +188,83 @@ class Grammar(Case):
         """What nests too deeply for this walk is left to c2po."""
         items = read("FTSPEC f: " + "(" * 5000 + "p" + ")" * 5000 + ";").items
         self.assertIsNone(grammar.misfit(items[0]))
+
+
+# A line below the prelude, and how the reader's own line is written instead, which c2po takes.
+REWRITTEN = [
+    ("FTSPEC f: F[0,0.5] p;", "FTSPEC f: F[0,5] p;"),
+    ("FTSPEC f: F[-1,3] p;", "FTSPEC f: F[0,3] p;"),
+    ("FTSPEC f: G (p);", "FTSPEC f: (p);"),
+    ("FTSPEC f: p -> F (q);", "FTSPEC f: p -> F[0,10] (q);"),
+    ("FTSPEC f: p == true;", "FTSPEC f: p;"),
+    ("/* why */ FTSPEC f: p;", "FTSPEC f: p; -- why"),
+    ("FTSPEC f: p; // why", "FTSPEC f: p; -- why"),
+    ("input z: bool;", "INPUT z: bool;"),
+    ("FTSPEC REQ-1: p;", "FTSPEC REQ_1: p;"),
+    ("ATOMIC a: x > 3;", "DEFINE a := x > 3;"),
+    ("FTSPEC f: F[0,3s] p;", "FTSPEC f: F[0,30] p;"),
+    ("PTSPEC f: p -> rose(q);", "PTSPEC f: p -> (q && O[1,1] !(q));"),
+    ("FTSPEC f: not p and q; -- and so on", "FTSPEC f: !p && q; -- and so on"),
+    ("FTSPEC f: p xor q;", "FTSPEC f: !(p <-> q);"),
+    ("FTSPEC f: p & q | x ≥ 3;", "FTSPEC f: p && q || x >= 3;"),
+]
+
+
+class Rewrites(Case):
+    def test_the_readers_own_line(self):
+        for line, wanted in REWRITTEN:
+            found = check(PRELUDE + line + "\n")
+            self.assertEqual(found.faults[0].note.right, wanted)
+            self.assertEqual(check(PRELUDE + wanted + "\n").faults, [], wanted)
+
+
+TRACED = "INPUT request, grant: bool; x: int;\nFTSPEC f: request -> F[0,3] grant; g: x > 3;\n"
+# Traces of that specification; the line, the column and the level of each fault, and what to write.
+TRACES = [
+    ("request,grant,x\n1,0,3\n", [(1, 1, "error", "# request,grant,x")]),
+    ("# request,grant,x\n1,true,20.5\n", [(2, 3, "error", "1,1,20.5"), (2, 8, "error", "1,true,205")]),
+    ('# request,grant,x\n1,0,"20"\n', [(2, 5, "error", "1,0,20")]),
+    ("# request;grant;x\n1;0;3\n", [(1, 10, "error", "# request,grant,x")]),
+    ("# request\tgrant\tx\n", [(1, 10, "error", "# request,grant,x")]),
+    ("# Request,grant,x\n1,0,3\n", [(1, 3, "error", "# request,grant,x")]),
+    ("\ufeff# request,grant,x\n1,0,3\n", [(1, 1, "error", "")]),
+    ("# request,grant,x\r1,0,3\r", [(1, 1, "error", "")]),
+    ("# request,grant,x\n1,0,3\n# c\n", [(3, 1, "error", "")]),
+    ("# request,grant,x\n1,0\n", [(2, 4, "error", None)]),
+    ("# request,x\n1,0\n", [(1, 12, "error", "# request,x,grant")]),
+    ("# request,grant,x\n1,0,\n1,2,3\n", [(2, 5, "error", ""), (3, 3, "error", "")]),
+    ("1,0,3\n", [(1, 1, "note", None)]),
+    ("", [(1, 1, "note", None)]),
+    ("# request,grant,x\n", [(1, 1, "note", None)]),
+    ("@0,1,0,3\n", [(1, 1, "note", None), (1, 1, "error", None)]),
+    ("# request,grant,x\n+1, 0 ,-3\r\n\n", []),
+]
+
+
+class Traces(Case):
+    def test_each_fault_at_its_field(self):
+        spec = self.file("spec.c2po", TRACED)
+        for text, wanted in TRACES:
+            found = check_trace(str(spec), str(self.file("rows.csv", text)), False)
+            told = [(it.line, it.column + 1, it.level, it.note.right if it.note else None) for it in found.faults]
+            self.assertLessEqual({it[:3] for it in wanted}, {it[:3] for it in told}, text)
+            for one in wanted:
+                self.assertIn(one, told, text)
+        utf16 = self.file("rows.csv", "# request,grant,x\n".encode("utf-16"))
+        self.assertIn("16 bits", check_trace(str(spec), str(utf16), False).faults[0].what)
+        stamped = self.file("rows.csv", "# request,grant,x\n@0,1,0,3\n1,0,3\n")
+        self.assertEqual([it.line for it in check_trace(str(spec), str(stamped), True).faults], [3])
+
+    def test_the_tool(self):
+        spec, rows = self.file("spec.c2po", TRACED), self.file("rows.csv", "# request,grant,x\n1,true,4\n")
+        status, out, errors = tool("check", spec, rows)
+        self.assertEqual((status, errors), (1, ""))
+        lines = [f"{rows}:2:3: error: grant is 0 or 1, and not true", "  1,true,4", "    ^^^^", "  note: a truth is a number: `1,1,4`"]
+        self.assertEqual(out.splitlines(), [*lines, f"{rows}: r2u2: trace line 2: not a whole number in column 2"])
+        self.assertEqual(tool("check", spec, self.file("rows.csv", "# request,grant,x\n1,0,4\n")), (0, "", ""))
+        found = json.loads(tool("check", "--json", spec, self.file("rows.csv", "# request,grant,x\n1,0,x\n"))[1])["files"][1]
+        self.assertEqual((found["r2u2"], found["faults"][0]["column"]), ("trace line 2: not a whole number in column 3", 5))
+        self.one_line(tool("check", spec, self.folder / "nowhere.csv")[2])
 
 
 class Layout(Case):

@@ -1,6 +1,7 @@
 """Checks specifications, and says at which token each fault is.
 
 usage: check [--json] [--sarif] SPEC..
+       check [--json] [--sarif] [--timed] SPEC TRACE
        check --format [--diff] [--write] SPEC..
        check --server
 
@@ -13,6 +14,9 @@ refuses. SPEC may be `-`, the standard input.
   $ r2u2-check flight.c2po
   flight.c2po:2:24: error: unknown name 'grnt' (did you mean 'grant'?)
     FTSPEC granted: request -> F[0,3] grnt;
+
+A second file whose name doesn't end in .c2po is a trace for the specification:
+what r2u2 refuses in it is shown at its field, with what to write.
 
 --format prints a specification with its blanks set in one way; comments and
 line ends stay, and the compiled program is the same.
@@ -30,11 +34,13 @@ import os
 import sys
 from argparse import Namespace
 from pathlib import Path
+from typing import List, Tuple
 
 from r2u2tools.check import layout, report
 from r2u2tools.check.faults import check
 from r2u2tools.check.server import Server
 from r2u2tools.check.source import LARGEST, decoded, encoded
+from r2u2tools.check.trace import check_trace
 from r2u2tools.common import cli
 from r2u2tools.common.specs import MAGIC
 
@@ -43,11 +49,12 @@ def asked() -> Namespace:
     words = cli.words(__doc__)
     words.add_argument("--json", action="store_true", help="print one object of JSON")
     words.add_argument("--sarif", action="store_true", help="print SARIF 2.1.0, as tools for reviews of code take it")
+    words.add_argument("--timed", action="store_true", help="the rows of TRACE have stamps")
     words.add_argument("--format", action="store_true", help="print the specification with its blanks set in one way")
     words.add_argument("--diff", action="store_true", help="with --format: print what would change")
     words.add_argument("--write", action="store_true", help="with --format: change the file")
     words.add_argument("--server", action="store_true", help="serve an editor by the language server protocol")
-    words.add_argument("specs", metavar="SPEC", nargs="*", help="a specification, or - for the standard input")
+    words.add_argument("specs", metavar="SPEC", nargs="*", help="a specification, or - for the standard input; then a trace")
     found = words.parse_args()
     if found.server == bool(found.specs):
         words.error("give specifications, or --server alone")
@@ -108,11 +115,20 @@ def main() -> int:
         return Server(os.fdopen(os.dup(0), "rb"), sys.stdout.buffer).run()
     if found.format:
         return formatted(found)
-    checked = [(path, check(text_of(path))) for path in found.specs]
+    specs, traces = parted(found.specs)
+    checked = [(path, check(text_of(path))) for path in specs]
+    if not any(told.answer.status for _, told in checked):
+        checked += [(path, check_trace(specs[0], path, found.timed)) for path in traces]
     if found.json or found.sarif:
         print(report.as_sarif(checked) if found.sarif else report.as_json(checked))
     else:
         for path, told in checked:
             for line in report.as_text(path, told):
                 print(line)
-    return 1 if any(told.answer.status for _, told in checked) else 0
+    return 1 if any(told.answer.status or any(it.level == "error" for it in told.faults) for _, told in checked) else 0
+
+
+def parted(paths: List[str]) -> Tuple[List[str], List[str]]:
+    """The specifications, and the trace where the second of two files is one."""
+    is_trace = len(paths) == 2 and paths[1] != "-" and not paths[1].endswith(".c2po")
+    return (paths[:1], paths[1:]) if is_trace else (paths, [])

@@ -14,6 +14,7 @@ from dataclasses import dataclass, field
 from typing import Iterator, List, Optional, Set, Tuple
 
 from r2u2tools.check import grammar, notes
+from r2u2tools.check.rewrites import instead
 from r2u2tools.check.source import QUANTIFIERS, Item, Source, Token, encoded, read
 from r2u2tools.common.cli import Trouble
 from r2u2tools.common.programs import program, ran
@@ -51,6 +52,7 @@ class Fault:
     name: str = ""
     hints: List[str] = field(default_factory=list)
     note: Optional[notes.Row] = None
+    level: str = "error"
 
     def text(self) -> str:
         """The message, with the token at fault and a hint."""
@@ -68,6 +70,8 @@ class Report:
     more: bool = False
     # The items that c2po takes, together.
     sound: List[Item] = field(default_factory=list)
+    # The program whose answer it is.
+    program: str = "c2po"
 
 
 def ask(text: str) -> Answer:
@@ -99,6 +103,9 @@ def check(text: str) -> Report:
     if answer.status:
         found = list(searched(report))
         report.faults = sorted(found[:MOST], key=lambda it: (it.line, it.column))
+        lines = source.lines()
+        for fault in report.faults:
+            fault.note = instead(fault.what, lines[fault.line - 1].rstrip("\r"), fault.note)
         report.more |= len(found) > MOST
     return report
 

@@ -28,20 +28,20 @@ def caret(report: Report, fault: Fault) -> Iterator[str]:
 def as_text(name: str, report: Report) -> Iterator[str]:
     """The faults of one file; the last line is c2po's own."""
     for fault in report.faults:
-        yield f"{name}:{fault.line}:{fault.column + 1}: error: {shown(fault.text())}"
+        yield f"{name}:{fault.line}:{fault.column + 1}: {fault.level}: {shown(fault.text())}"
         yield from caret(report, fault)
         if fault.note:
             yield f"  note: {fault.note.text()}"
     if report.more:
         yield f"{name}: there are more faults"
     if report.answer.status:
-        yield f"{name}: c2po: {report.answer.message}"
+        yield f"{name}: {report.program}: {report.answer.message}"
 
 
 def as_object(fault: Fault) -> Dict[str, Any]:
     return {
         "line": fault.line, "column": fault.column + 1, "length": fault.length, "what": fault.what,
-        "message": fault.text(), "hints": fault.hints, "note": fault.note.text() if fault.note else None,
+        "level": fault.level, "message": fault.text(), "hints": fault.hints, "note": fault.note.text() if fault.note else None,
     }
 
 
@@ -49,7 +49,7 @@ def as_json(checked: Checked) -> str:
     """All files: what c2po says of each, and its faults."""
     files = [
         {
-            "file": name, "status": report.answer.status, "c2po": report.answer.message, "more": report.more,
+            "file": name, "status": report.answer.status, report.program: report.answer.message, "more": report.more,
             "faults": [as_object(fault) for fault in report.faults],
         }
         for name, report in checked
@@ -64,7 +64,7 @@ def result(name: str, fault: Fault) -> Dict[str, Any]:
     }
     note = f"\n{fault.note.text()}" if fault.note else ""
     return {
-        "ruleId": fault.what, "level": "error", "message": {"text": shown(fault.text()) + note},
+        "ruleId": fault.what, "level": fault.level, "message": {"text": shown(fault.text()) + note},
         "locations": [{"physicalLocation": {"artifactLocation": {"uri": uri(name)}, "region": region}}],
     }
 
