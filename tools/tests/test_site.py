@@ -145,7 +145,7 @@ class Site(unittest.TestCase):
         """A bar in a table's code is shown as it is written, and splits no cell."""
         texts = {it: it.read_text(encoding="utf-8") for it in self.site.rglob("*.html")}
         self.assertEqual([it.name for it, text in texts.items() if "\\|" in text], [])
-        self.assertIn("<code>mode == 2 -&gt; O[1,1] (mode == 1 || mode == 2)</code>", texts[self.site / "docs/reference/patterns.html"])
+        self.assertIn("<code>F[0,2] (p || r)</code>", texts[self.site / "docs/reference/scopes.html"])
 
     def test_colours(self):
         """Specifications have colours."""
