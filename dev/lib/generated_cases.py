@@ -83,21 +83,21 @@ def measured() -> Iterator[Case]:
         yield Case(f"workload {load.name}", load.spec.encode(), rows=rows)
 
 
-WINDOWS = ((0, 0), (0, 1), (1, 1), (0, 63), (1, 63), (63, 63), (0, 64), (64, 64), (1, 65), (65, 65), (64, 1000), (300, 310))
+WINDOWS = ((0, 0), (0, 1), (1, 1), (0, 63), (1, 63), (63, 63), (0, 64), (64, 64), (1, 65), (65, 65), (64, 130), (64, 1000), (300, 310))
 LONGEST = ((0, 1 << 20), (1, 1 << 20), (1000, 1 << 20), (1 << 20, 1 << 20), (1048000, 1 << 20))
-FORMS = ("F{0} p", "G{0} p", "p U{0} q", "p R{0} q", "(F[0,1] p) U{0} q", "p U{0} (G[0,2] q)", "p -> F{0} q", "(p U[0,3] q) U{0} (F[0,2] r)")
+FORMS = ("F{0} p", "G{0} p", "p U{0} q", "p R{0} q", "(F[0,1] p) U{0} q", "p U{0} (G[0,2] q)", "p -> F{0} q", "(p U[0,3] q) U{0} (F[0,2] r)", "F{0} (p && G[0,2] q)", "(p U[0,2] (F[0,1] q)) U{0} r")
 PAST = ("O{0} p", "H{0} p", "p S{0} q", "H[0,2] (p S{0} q)", "(!p) S{0} (O[1,3] q)")
 CONTRACTS = ("p => F{0} q", "F{0} p => q", "F{0} p => G{0} q", "(p U[1,2] r) => F{0} q")
 
 
-def windows() -> Iterator[Case]:
+def windows(traces: int = 2) -> Iterator[Case]:
     """Each form at each edge of the windows, and the longest windows over rows that pass them."""
     dice = Random(5)
     for low, high in WINDOWS:
         text = random_programs.INPUTS
         for section, forms in (("FTSPEC", FORMS + CONTRACTS), ("PTSPEC", PAST)):
             text += "".join(f"{section} {form.format(f'[{low},{high}]')};\n" for form in forms)
-        for _ in range(2):
+        for _ in range(traces):
             yield Case(f"windows [{low},{high}]", text.encode(), rows=random_programs.rows(dice, ROWS))
 
 

@@ -3,6 +3,7 @@
 from __future__ import annotations
 
 import os
+import resource
 import shutil
 import subprocess
 import sys
@@ -17,11 +18,22 @@ from typing import Iterable, Iterator, List, Optional, Sequence
 from generated_cases import MAGIC, ROOT, Case
 
 from r2u2tools.generate import program as programs
+from r2u2tools.generate.handlers import words_of
 from r2u2tools.generate.source import Options, Source
 
 RUNNER = ROOT / "dev/lib/run_generated.c"
 BATCH = 25
+# The files that a run prints, and the options with which r2u2 prints the same.
+ENDINGS = (("each", ()), ("runs", ("--runs",)), ("step", ()))
 WARNINGS = ("-std=c99", "-pedantic", "-Wall", "-Wextra", "-Wconversion", "-Werror")
+SANITIZERS = ("-g", "-fsanitize=address,undefined", "-fno-sanitize-recover=all")
+# The compilers of the part `strict`.
+STRICT = (
+    ("gcc", "-O2", *WARNINGS),
+    ("gcc", "-O1", "-m32", *WARNINGS),
+    ("gcc", "-O1", *WARNINGS, *SANITIZERS),
+    ("clang", "-O1", *WARNINGS),
+)
 
 
 @dataclass
@@ -42,6 +54,7 @@ class Made:
     program: programs.Program
     rows: List[List[int]]
     folder: Path
+    has_step: bool
 
 
 def command(name: str) -> str:
@@ -61,6 +74,26 @@ def compiled(case: Case, out: Path) -> bool:
     return subprocess.run([command("c2po"), "-o", str(out), str(spec)], stderr=subprocess.DEVNULL).returncode == 0
 
 
+def options_of(program: programs.Program, name: str) -> Options:
+    """Handlers for each word of each output; none where two outputs have names that differ by case alone."""
+    names = [it.name.lower() for it in program.outputs]
+    if len(set(names)) < len(names) or not names:
+        return Options(name)
+    return Options(name, {k: words_of(it) for k, it in enumerate(program.outputs)}, True)
+
+
+def handlers_of(it: Made) -> str:
+    """The handlers of a monitor: each prints the line of its verdict."""
+    if not it.has_step:
+        return f"#define {it.name}_step {it.name}_row\n"
+    made = [(output.name, number, word) for output in it.program.outputs for number, word in enumerate(words_of(output))]
+    shown = {"false": "F", "true": "T"}
+    return "".join(
+        f'void {it.name}_on_{name}_{word}(uint64_t time) {{ fprintf(out, "{name}:%llu,{shown.get(word, word)}\\n", (unsigned long long)time); }}\n'
+        for name, _, word in made
+    )
+
+
 def made(case: Case, name: str, folder: Path) -> Optional[Made]:
     """Writes the monitor and the rows of a case; none where c2po refuses its specification."""
     out = folder / f"{name}.obs"
@@ -68,26 +101,36 @@ def made(case: Case, name: str, folder: Path) -> Optional[Made]:
         return None
     program = programs.parsed(out.read_bytes())
     rows = case.rows_of(program)
-    source = Source(program, Options(name))
+    source = Source(program, options_of(program, name))
     (folder / f"{name}.h").write_text(source.header())
     (folder / f"{name}.c").write_text(source.source())
     with open(folder / f"{name}.csv", "w") as file:
         file.writelines(",".join(map(str, row)) + "\n" for row in rows)
     with open(folder / f"{name}.rows", "wb") as file:
         array("i", [it for row in rows for it in row]).tofile(file)
-    return Made(name, case, program, rows, folder)
+    return Made(name, case, program, rows, folder, source.options.has_step)
 
 
 def build(found: Sequence[Made], compiler: Sequence[str], out: Path) -> None:
     """Builds one program of some monitors."""
     folder = found[0].folder
-    listed = " ".join(f"MONITOR({it.name}, {it.program.width})" for it in found)
-    heads = "".join(f'#include "{it.name}.h"\n' for it in found)
+    listed = " ".join(f"MONITOR({it.name}, {it.program.width}, {int(it.has_step)})" for it in found)
+    heads = "#include <stdio.h>\nstatic FILE *out;\n" + "".join(f'#include "{it.name}.h"\n{handlers_of(it)}' for it in found)
     (folder / "main.c").write_text(f'{heads}#define MONITORS {listed}\n#include "{RUNNER}"\n')
     words = [*compiler, "-o", str(out), "-I", str(folder), str(folder / "main.c")]
     ran = subprocess.run([*words, *(str(folder / f"{it.name}.c") for it in found)], capture_output=True, text=True)
     if ran.returncode:
         raise RuntimeError(f"{' '.join(compiler)}: {ran.stderr[:3000]}")
+
+
+def run(words: Sequence[str], folder: Path, most_bytes: int = 1 << 30, most_seconds: int = 600) -> subprocess.CompletedProcess[str]:
+    """Runs monitors in a folder; a file that gets too long ends them, and so does a processor's time."""
+
+    def limit() -> None:
+        resource.setrlimit(resource.RLIMIT_FSIZE, (most_bytes, most_bytes))
+        resource.setrlimit(resource.RLIMIT_CPU, (most_seconds, most_seconds))
+
+    return subprocess.run(words, cwd=folder, capture_output=True, text=True, preexec_fn=limit)
 
 
 def wanted(it: Made, *flags: str) -> bytes:
@@ -97,6 +140,8 @@ def wanted(it: Made, *flags: str) -> bytes:
 
 def differs(it: Made, ending: str, lines: bytes) -> Optional[str]:
     """How the lines of a monitor differ from those of r2u2."""
+    if ending == "step" and not it.has_step:
+        return None
     path = it.folder / f"{it.name}.{ending}"
     got = path.read_bytes() if path.is_file() else b""
     if got == lines:
@@ -115,14 +160,26 @@ def faults_of_batch(batch: Sequence[Case], compiler: Sequence[str]) -> Iterator[
         if not found:
             return
         build(found, compiler, folder / "run")
-        ran = subprocess.run([str(folder / "run")], cwd=folder, capture_output=True, text=True)
+        ran = run([str(folder / "run")], folder)
         if ran.returncode:
             yield f"{batch[0].title} and others: status {ran.returncode} {ran.stderr[:2000]}"
         for it in found:
-            for ending, flags in (("each", ()), ("runs", ("--runs",))):
-                if fault := differs(it, ending, wanted(it, *flags)):
-                    yield fault
+            lines = {flags: wanted(it, *flags) for _, flags in ENDINGS}
+            yield from filter(None, (differs(it, ending, lines[flags]) for ending, flags in ENDINGS))
         counted.append(len(found))
+
+
+def strict(cases: Sequence[Case], jobs: int) -> Result:
+    """Compares with each strict compiler that can build a program here."""
+    found = [compared("strict", cases, jobs, it) if builds(it) else Result(f"skipped: no {' '.join(it[:3])}", skipped=1) for it in STRICT]
+    return Result("; ".join(f"{' '.join(words[:3])}: {it.text}" for words, it in zip(STRICT, found)), sum(it.failed for it in found), sum(it.skipped for it in found))
+
+
+def builds(compiler: Sequence[str]) -> bool:
+    """Whether a compiler is there, with the libraries that its options need."""
+    words = [*compiler, "-x", "c", "-o", os.devnull, "-"]
+    text = "#include <stdio.h>\nint main(void) { return puts(\"\") < 0; }\n"
+    return bool(shutil.which(compiler[0])) and subprocess.run(words, input=text, capture_output=True, text=True).returncode == 0
 
 
 counted: List[int] = []
@@ -134,7 +191,7 @@ def batches(found: Iterable[Case]) -> Iterator[List[Case]]:
         yield batch
 
 
-def compared(name: str, found: Iterable[Case], jobs: int, compiler: Sequence[str] = ("cc", "-O1", "-std=c99")) -> Result:
+def compared(name: str, found: Iterable[Case], jobs: int, compiler: Sequence[str] = ("cc", "-O0", "-std=c99")) -> Result:
     """Compares monitors with r2u2."""
     if not shutil.which(compiler[0]):
         return Result(f"skipped: no {compiler[0]}", skipped=1)

@@ -88,6 +88,8 @@ class Arithmetic:
             return f"row[{it.left}]"
         if it.op == "truth":
             return f"row[{it.left}] != 0"
+        if it.op in COMPARED and it.left == it.right:
+            return "false" if it.op == "<" else "true"
         if it.op in COMPARED:
             return f"{self.ref(it.left)} {it.op} {self.ref(it.right)}"
         if it.op == "%" and abs(self.program.bz[it.right].value) == 1 or it.op == "%" and self.ranges[it.right][0] in (1, -1):

@@ -173,17 +173,16 @@ class Future:
 
     def write_ring(self, node: Node) -> None:
         f, lag = f"f{node.number}", self.body.member("uint32_t", f"f{node.number}_lag")
-        sides = [self.queue(node.left), self.queue(node.right)]
         own = f"{self.ring(node)}, {node.ring - 1}, {f}_from"
         window = f"{node.low}, {node.high}, " if node.op == "until" else ""
         places = [f"&{self.body.member('uint32_t', f'{f}_place')}"] if node.op == "until" else []
-        name = "and_row" if node.op == "and" else "until_row"
+        name, operands = "and_row" if node.op == "and" else "until_row", [node.left, node.right]
         if node.op == "until" and self.value_or_none(node.left) == "true":
-            name, sides = "eventually_row", sides[1:]
+            name, operands = "eventually_row", [node.right]
         elif node.op == "until":
             places.append(f"&{self.body.member('uint32_t', f'{f}_missed')}")
         self.body.add(f"const uint32_t {f}_from = now - 1 - {lag};")
-        words = ", ".join([*sides, window + own, *places])
+        words = ", ".join([*map(self.queue, operands), window + own, *places])
         self.body.call(name, f"const uint32_t {f}_end = {name}({words});")
         self.body.add(f"const uint32_t {f}_new = {f}_end - {f}_from;", f"const uint32_t {f}_lag = now - {f}_end;")
         self.body.add(f"{lag} = {f}_lag;")

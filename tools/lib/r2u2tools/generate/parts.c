@@ -17,14 +17,20 @@ static inline uint32_t length32(uint32_t bits) {
 #endif
 }
 
-/*@ length64 length32 */
+/*@ length64 */
 /* The same of 64 bits. */
 static inline uint32_t length64(uint64_t bits) {
 #if defined(__GNUC__) && UINT_MAX == UINT32_MAX
     return bits == 0 ? 0 : 64 - (uint32_t)__builtin_clzll(bits);
 #else
-    const uint32_t high = (uint32_t)(bits >> 32);
-    return high != 0 ? 32 + length32(high) : length32((uint32_t)bits);
+    uint32_t length = 0;
+    if (bits >= UINT64_C(1) << 32) { bits >>= 32; length += 32; }
+    if (bits >= UINT64_C(1) << 16) { bits >>= 16; length += 16; }
+    if (bits >= UINT64_C(1) << 8) { bits >>= 8; length += 8; }
+    if (bits >= UINT64_C(1) << 4) { bits >>= 4; length += 4; }
+    if (bits >= UINT64_C(1) << 2) { bits >>= 2; length += 2; }
+    if (bits >= UINT64_C(1) << 1) { bits >>= 1; length += 1; }
+    return length + (uint32_t)bits;
 #endif
 }
 

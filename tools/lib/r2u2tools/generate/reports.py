@@ -120,6 +120,55 @@ class Reports:
         if found.assumed:
             self.body.add(f"{it}.assumed = {found.assumed};")
 
+    def tell(self, k: int, name: str, words: tuple[str, ...]) -> None:
+        """Writes the calls of an output's handlers, which have some words; of none only how far the output is decided."""
+        found, add = self.found(k), self.body.add
+        if found.lag and (found.assumed or found.is_ring and words):
+            add(f"it->open[{k}].lag = {found.lag};")
+        if not words:
+            return
+        if found.lag is None:
+            add(*self.calls(k, name, words, self.truths(k, found), "it->rows - 1"))
+        elif found.is_ring:
+            self.tell_ring(k, name, words, found)
+        else:
+            bits = [found.bits, found.assumed] if found.assumed else [found.bits]
+            kind = f"uint{self.width}_t"
+            add(f"for (uint32_t left = {found.count}; left != 0; left--) {{")
+            for text, side in zip(bits, ("bits", "assumed")):
+                add(f"    const {kind} {side} = {text};")
+            shift = "" if found.is_run else " >> (left - 1)"
+            truths = [f"({side}{shift} & 1) != 0" for _, side in zip(bits, ("bits", "assumed"))]
+            add(*(f"    {line}" for line in self.calls(k, name, words, truths, f"it->rows - ({found.lag} + left)")), "}")
+
+    def truths(self, k: int, found: Found) -> list[str]:
+        """The guarantee and the assumption of an output that is known at once, or its formula."""
+        return [text.partition(" ?")[0] if "?" in text else "true" if text != "0" else "false" for text in (found.bits, found.assumed) if text]
+
+    def tell_ring(self, k: int, name: str, words: tuple[str, ...], found: Found) -> None:
+        """The same for verdicts that are in rings, of which up to 64 are fetched at once."""
+        it = f"it->open[{k}]"
+        truths = [f"({it}.{side} >> bit & 1) != 0" for side in (("bits", "assumed") if found.assumed else ("bits",))]
+        self.body.add(
+            f"{it}.left = {found.count};",
+            f"while ({it}.left != 0) {{",
+            f"    if (({it}.left & 63) == 0 || {it}.left == {found.count}) fetch(it, {k});",
+            f"    const uint32_t bit = ({it}.left - 1) & 63;",
+            *(f"    {line}" for line in self.calls(k, name, words, truths, f"it->rows - ({found.lag} + {it}.left)")),
+            f"    {it}.left -= 1;",
+            "}",
+        )
+
+    def calls(self, k: int, name: str, words: tuple[str, ...], truths: list[str], time: str) -> list[str]:
+        """The calls of handlers for a time, by the truth of a formula, or of a guarantee and its assumption."""
+        first = truths[0] if " " not in truths[0] else f"({truths[0]})"
+        tests = {"true": first, "false": f"!{first}", "inactive": "", "invalid": f"!{first}", "verified": first}
+        handler = f"{name}_on_{self.program.outputs[k].name}"
+        if len(truths) == 2:
+            assumed = truths[1] if " " not in truths[1] else f"({truths[1]})"
+            tests |= {"inactive": f"!{assumed}"} | {word: f"{assumed} && {tests[word]}" for word in ("invalid", "verified")}
+        return [f"if ({tests[word].replace('!!', '')}) {handler}_{word}({time});" for word in words]
+
     def fetch(self, name: str) -> list[str]:
         """The function that reads the next verdicts of outputs from rings; up to 64, the last one lowest."""
         lines = [

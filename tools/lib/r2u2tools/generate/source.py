@@ -33,8 +33,14 @@ class Source:
         self.future, self.past = Future(self.nodes, self.body), Past(program, self.body)
         self.reports = Reports(program, self.nodes, self.future, self.past, self.body)
         self.row = self.row_function()
+        self.step = self.step_function() if options.has_step else []
         self.fetch = self.reports.fetch(self.name) if self.reports.rings else []
-        self.delays = [0 if it.is_past else self.nodes.worst(*self.nodes.sides(it)[: 1 + it.is_contract]) for it in program.outputs]
+        self.delays = [self.delay(k) for k in range(len(program.outputs))]
+
+    def delay(self, k: int) -> int:
+        """The most rows after its own with which a verdict of an output is out."""
+        it = self.program.outputs[k]
+        return 0 if it.is_past else self.nodes.worst(*self.nodes.sides(it)[: 1 + it.is_contract])
 
     def upper(self, text: str) -> str:
         return f"{self.name.upper()}_{text}"
@@ -55,30 +61,73 @@ class Source:
         self.evaluate()
         for k in range(len(self.program.outputs)):
             self.reports.keep(k, self.reports.found(k))
-        return self.function(f"bool {self.name}_row(struct {self.name} *it, {self.row_type()} row)", self.refusals())
-
-    def row_type(self) -> str:
-        return "const int32_t"
-
-    def refusals(self) -> list[str]:
-        """The lines that refuse a row."""
-        lines = []
+        before = self.refusals()
         if self.program.outputs:
             count = self.upper("OUTPUTS")
-            lines += [f"while (it->at < {count} && it->open[it->at].left == 0) it->at += 1;", f"if (it->at < {count}) return false;"]
+            left = [f"while (it->at < {count} && it->open[it->at].left == 0) it->at += 1;", f"if (it->at < {count}) return false;"]
+            before = [*left, *before, "it->at = 0;"]
+        return self.function(f"bool {self.name}_row(struct {self.name} *it, const int32_t row)", before)
+
+    def refusals(self) -> list[str]:
+        """The lines that refuse a row by its Booleans."""
         truths = sorted({it.left for it in self.program.bz if it.op == "truth"})
-        if truths:
-            lines.append(f"if ((uint32_t)({' | '.join(f'row[{k}]' for k in truths)}) > 1) return false;")
-        return lines
+        return [f"if ((uint32_t)({' | '.join(f'row[{k}]' for k in truths)}) > 1) return false;"] if truths else []
+
+    # The row with handlers
+
+    def depth(self) -> int:
+        """How many rows are kept for handlers: those of all verdicts, or the latest."""
+        return 1 + max((self.delay(k) for k in self.options.handlers), default=0) if self.options.keep_rows else 1
+
+    def step_function(self) -> list[str]:
+        self.evaluate()
+        for k in range(len(self.program.outputs)):
+            self.reports.tell(k, self.name, self.options.handlers.get(k, ()))
+        kept = [self.body.member("const int32_t *", "row") + " = row;"]
+        if self.depth() > 1:
+            width, depth, at = self.program.width, self.depth(), self.body.member("uint32_t", "slot")
+            rows = self.body.member("int32_t", "kept", depth * width)
+            kept = [f"{at} = {at} + 1 == {depth} ? 0 : {at} + 1;", f"for (uint32_t k = 0; k < {width}; k++) {rows}[{at} * {width}u + k] = row[k];"]
+            del self.body.members["row"]
+        return self.function(f"bool {self.name}_step(struct {self.name} *it, const int32_t row)", [*self.refusals(), *kept])
+
+    def row_at(self) -> list[str]:
+        """The function that returns the row of a time."""
+        lines = [
+            f"const int32_t *{self.name}_row_at(const struct {self.name} *it, uint64_t time) {{",
+            "    const uint64_t age = it->rows - 1 - time;",
+            f"    if (time >= it->rows || age >= {self.depth()}) return 0;",
+        ]
+        if self.depth() == 1:
+            return [*lines, "    return it->row;", "}", ""]
+        at = f"it->slot >= (uint32_t)age ? it->slot - (uint32_t)age : it->slot + {self.depth()} - (uint32_t)age"
+        return [*lines, f"    const uint32_t slot = {at};", f"    return &it->kept[slot * {self.program.width}u];", "}", ""]
+
+    def handler_declarations(self) -> list[str]:
+        name, outputs = self.name, self.program.outputs
+        row = f"row[{self.upper('WIDTH')}]" if self.program.width else "*row"
+        size = 4 * self.depth() * self.program.width
+        memory = f" The monitor keeps {self.depth()} rows in {size} bytes." if self.depth() > 1 else ""
+        return [
+            "/* Functions of yours, which are called for each verdict with this word, with its time. */",
+            *(f"void {name}_on_{outputs[k].name}_{word}(uint64_t time);" for k, words in self.options.handlers.items() for word in words),
+            "",
+            "/* Takes the next row, and calls the functions above: outputs in order, and the times of each in order. Returns false, and",
+            f" * changes nothing, if a Boolean is neither 0 nor 1. Reports of {name}_row have to be asked for before. */",
+            f"bool {name}_step(struct {name} *it, const int32_t {row});",
+            "",
+            f"/* Returns, within a function that {name}_step calls, the row of a time; 0 for one that isn't kept.{memory} */",
+            f"const int32_t *{name}_row_at(const struct {name} *it, uint64_t time);",
+            "",
+        ]
 
     def function(self, head: str, before: list[str]) -> list[str]:
         """A function that takes a row, with the lines of the body."""
         lines = pruned(self.body.lines)
+        self.body.lines = []
         text = "\n".join(lines)
         uses_now, uses_row = "now" in text, "row[" in text or any("row[" in line for line in before)
         body = [*before, "it->rows += 1;"]
-        if self.program.outputs:
-            body.append("it->at = 0;")
         if uses_now:
             body.append("const uint32_t now = (uint32_t)it->rows;")
         if not uses_row:
@@ -202,6 +251,7 @@ class Source:
             "/* The same with one report for each longest run of times with one word that a row decides, with its last time. */",
             f"bool {name}_next_run(struct {name} *it, struct {name}_report *report);",
             "",
+            *(self.handler_declarations() if self.step else []),
         ]
 
     # The source
@@ -215,6 +265,8 @@ class Source:
             if name != "box":
                 out += [text, ""]
         out += [*self.init(), *self.fetch, *self.row, *self.next(), *self.next_run()]
+        if self.step:
+            out += [*self.step, *self.row_at()]
         return "\n".join(out)
 
     def functions(self) -> list[tuple[str, str]]:
