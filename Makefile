@@ -55,7 +55,7 @@ unproved:
 	@dev/unproved
 
 try: unproved
-	@build/unproved/r2u2 --source '$(SPEC)' '$(TRACE)'
+	@build/unproved/r2u2 --source '$(SPEC)' '$(TRACE)' || { code=$$?; R2U2=build/unproved/r2u2 C2PO=build/unproved/c2po tools/check '$(SPEC)' '$(TRACE)'; exit $$code; }
 
 # Side by side: the tests as they go, and what the cases gave at the end. `rt try` runs the cases compiled with checks,
 # which takes longest, so the tests leave it the processor that it needs.

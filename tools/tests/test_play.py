@@ -90,6 +90,8 @@ class Server(Served):
         self.assertEqual((fault["line"], fault["message"]), (3, "unknown name 'grnt' (did you mean 'grant'?)"))
         found = self.call("run", spec=GRANT, trace="1,0\n1,x\n")
         self.assertEqual(found["message"], "trace line 2: not a whole number in column 2")
+        found = self.call("run", spec=GRANT, trace="# request,grant\n1,true\n")
+        self.assertEqual(found["hints"], ["line 2, column 3: grant is 0 or 1, and not true; a truth is a number: `1,1`"])
         self.assertIn("no output none", self.call("why", spec=GRANT, trace=TRACE, name="none", time=2)["trouble"])
         self.assertIn("trouble", self.call("why", spec=GRANT, trace=TRACE, name="--html=/tmp/x", time="--"))
         self.assertIn("trouble", self.call("cost", spec="FTSPEC f: p;"))
@@ -263,7 +265,7 @@ class Browser(Served):
     def test_a_trace_that_is_refused(self):
         page = self.open()
         page.type("#trace", "# request,grant\n1,0\n1,2\n")
-        page.until("document.querySelector('#refused').textContent === 'trace line 3: out of range in column 2'")
+        page.until("document.querySelector('#refused').textContent.startsWith('trace line 3: out of range in column 2\\nline 3, column 3: ')")
 
     def test_examples_random_and_links(self):
         page = self.open(dark=True)

@@ -14,7 +14,7 @@ from dataclasses import dataclass, field
 from typing import Iterator, List, Optional, Set, Tuple
 
 from r2u2tools.check import grammar, notes
-from r2u2tools.check.rewrites import instead
+from r2u2tools.check.rewrites import rewritten
 from r2u2tools.check.source import QUANTIFIERS, Item, Source, Token, encoded, read
 from r2u2tools.common.cli import Trouble
 from r2u2tools.common.programs import program, ran
@@ -23,6 +23,9 @@ from r2u2tools.common.programs import program, ran
 MOST, SECONDS = 100, 10
 PLACED = re.compile(r"line (\d+): (.*)", re.S)
 SPECIFICATION = 2
+MEANT = re.compile(r"did you mean '([^']+)'\?")
+# The faults that a line in other words may mend.
+REWRITABLE = ("syntax", "bad character", "wrong kind", "unknown name", "bad interval")
 # A status of c2po that says something of the text: its faults, and that it is too long or takes too much memory.
 OF_THE_TEXT = (SPECIFICATION, 5, 8)
 TYPES = {"boolean": "bool", "integer": "int", "float": "int", "double": "int", "real": "int", "uint": "int", "string": "int"}
@@ -105,9 +108,16 @@ def check(text: str) -> Report:
         report.faults = sorted(found[:MOST], key=lambda it: (it.line, it.column))
         lines = source.lines()
         for fault in report.faults:
-            fault.note = instead(fault.what, lines[fault.line - 1].rstrip("\r"), fault.note)
+            fault.note = instead(fault, lines[fault.line - 1].rstrip("\r"))
         report.more |= len(found) > MOST
     return report
+
+
+def instead(fault: Fault, line: str) -> Optional[notes.Row]:
+    """What is said below a fault: the reader's own line as it should be, else the usual row of the page."""
+    if meant := MEANT.search(fault.text()):
+        return notes.Row("write", line, (line[: fault.column] + meant[1] + line[fault.column + fault.length :]).strip())
+    return (rewritten(line) if fault.what in REWRITABLE else None) or fault.note
 
 
 def searched(report: Report) -> Iterator[Fault]:

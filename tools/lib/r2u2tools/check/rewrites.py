@@ -71,12 +71,3 @@ def rewritten(line: str) -> Optional[Row]:
         code, count = re.subn(pattern, by, code)
         reasons += [why] * (count > 0 and why not in reasons)
     return Row("; ".join(reasons), line, (code + dashes + comment).strip()) if reasons else None
-
-
-# The faults that a line in other words may mend.
-REWRITABLE = ("syntax", "bad character", "wrong kind", "unknown name", "bad interval")
-
-
-def instead(what: str, line: str, usual: Optional[Row]) -> Optional[Row]:
-    """What is said below a fault: the reader's own line as it should be, else the usual row of the page."""
-    return (rewritten(line) if what in REWRITABLE else None) or usual

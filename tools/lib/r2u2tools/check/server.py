@@ -7,13 +7,12 @@ import json
 import multiprocessing
 import os
 import queue
-import re
 import subprocess
 import threading
 from multiprocessing.connection import Connection
 from typing import Any, BinaryIO, Callable, Dict, List, Optional, Set, Union
 
-from r2u2tools.check.faults import Fault, Report, check
+from r2u2tools.check.faults import MEANT, Fault, Report, check
 from r2u2tools.check.language import Document
 from r2u2tools.check.layout import laid_out
 from r2u2tools.check.source import LARGEST, NAME, RESERVED, Token, encoded, read
@@ -24,7 +23,6 @@ UNKNOWN, WRONG, FAILED, NOT_YET = -32601, -32602, -32603, -32002
 # After how many seconds a changed text is checked, a check is told as a progress, and a request goes on without it.
 QUIET, SLOW, PATIENT = 0.05, 1.0, 10.0
 FORK = multiprocessing.get_context("fork")
-MEANT = re.compile(r"did you mean '([^']+)'\?")
 Message = Dict[str, Any]
 
 ABILITIES = {
@@ -366,10 +364,14 @@ class Server:
             told = diagnostic(lines, fault)
             first, last = (tuple(told["range"][end].values()) for end in ("start", "end"))
             if first <= tuple(wanted["end"].values()) and tuple(wanted["start"].values()) <= last:
-                for name in MEANT.findall(fault.text()):
-                    changes = {"changes": {uri: [edit(told["range"], name)]}}
-                    found.append({"title": f"Write {name}", "kind": "quickfix", "diagnostics": [told], "edit": changes})
+                found += [self.action(uri, told, f"Write {name}", told["range"], name) for name in MEANT.findall(fault.text())]
+                line = lines[fault.line - 1]
+                if not found and fault.note and fault.note.wrong and fault.note.wrong == line:
+                    found.append(self.action(uri, told, f"Write {fault.note.right}", span(lines, fault.line, 0, len(line)), fault.note.right))
         return found
+
+    def action(self, uri: str, told: Message, title: str, place: Message, text: str) -> Message:
+        return {"title": title, "kind": "quickfix", "diagnostics": [told], "edit": {"changes": {uri: [edit(place, text)]}}}
 
     def symbols(self, given: Message) -> List[Message]:
         """The names that a text declares, for the outline of an editor."""

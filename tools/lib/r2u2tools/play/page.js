@@ -75,7 +75,7 @@ async function run() {
   if (found.trouble) return;
   if (found.accepted || !result) result = found.accepted ? found : null;
   faults(found.faults);
-  by("refused").textContent = found.accepted ? found.message + (found.cut ? " (too many verdicts: the first are shown)" : "") : "";
+  by("refused").textContent = found.accepted ? [found.message, ...found.hints].join("\n") + (found.cut ? " (too many verdicts: the first are shown)" : "") : "";
   draw(found.accepted);
   if (found.accepted && costed !== it.spec) cost(it.spec);
   if (found.accepted && picked) why();

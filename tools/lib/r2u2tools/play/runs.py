@@ -87,6 +87,7 @@ def verdicts(files: Files) -> Dict[str, Any]:
         name, _, rest = line[:LONGEST].decode("ascii").rpartition(":")
         time, _, word = rest.partition(",")
         joined(lanes.setdefault(name, []), int(time), WORDS.index(word))
+    hints = trace_hints(files) if ran.status else []
     trace = taken_rows(files, spec, ran.error)
     columns = trace.columns or [Runs() for _ in spec.signals]
     return {
@@ -96,8 +97,17 @@ def verdicts(files: Files) -> Dict[str, Any]:
         "times": trace.times,
         "constants": constants(spec),
         "message": ran.error.removeprefix("r2u2: ") if ran.status else "",
+        "hints": hints,
         "cut": len(ran.out) >= MOST_OUTPUT,
     }
+
+
+def trace_hints(files: Files) -> List[str]:
+    """What r2u2-check says of a trace that r2u2 refuses."""
+    ran = tool("check", "--json", *files.timed, str(files.spec), str(files.trace))
+    found = json.loads(ran.out)["files"][1:] if ran.out else []
+    faults = [it for one in found for it in one["faults"]][:5]
+    return [f"line {it['line']}, column {it['column']}: {it['message']}" + (f"; {it['note']}" if it["note"] else "") for it in faults]
 
 
 def taken_rows(files: Files, spec: Spec, message: str) -> Trace:
