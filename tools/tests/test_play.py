@@ -11,7 +11,7 @@ import sys
 
 import chromium
 from support import PATIENCE, ROOT, TOOLS, Case, program, tool, with_signals
-from r2u2tools.common.cli import Trouble
+from r2u2tools.common.cli import ToolError
 from r2u2tools.play import runs
 from r2u2tools.play.examples import examples
 from r2u2tools.play.server import CALLS, LARGEST
@@ -159,7 +159,7 @@ class Bounds(Case):
     def test_seconds(self):
         before, runs.CLOCK = runs.CLOCK, 1
         self.addCleanup(setattr, runs, "CLOCK", before)
-        with self.assertRaisesRegex(Trouble, "more than 1 seconds"):
+        with self.assertRaisesRegex(ToolError, "more than 1 seconds"):
             runs.bounded(["sleep", "30"])
 
     def test_output(self):

@@ -3,7 +3,7 @@
 from support import ROOT, Case, program, shell
 
 from r2u2tools.common import specs
-from r2u2tools.common.cli import Trouble
+from r2u2tools.common.cli import ToolError
 
 TEXT = """-- a comment; with a sign
 STRUCT Pair: { a: bool; b: int; };
@@ -37,7 +37,7 @@ class Specs(Case):
     def test_faults(self):
         for text, said in [("INPUT p: bool;\nFTSPEC p & p;", "line 2: bad character"), ("p;", "line 1: no section")]:
             path = self.file("spec", text)
-            with self.assertRaises(Trouble) as caught:
+            with self.assertRaises(ToolError) as caught:
                 specs.read_spec(path)
             self.assertIn(said, str(caught.exception))
 
@@ -50,5 +50,5 @@ class Specs(Case):
         self.assertEqual([(out.name, out.section) for out in spec.outputs], [("granted", "FTSPEC")])
 
     def test_a_cut_program(self):
-        with self.assertRaises(Trouble):
+        with self.assertRaises(ToolError):
             specs.read_spec(self.file("cut", b"MLTL\x02\x00\x00\x00\x01"))

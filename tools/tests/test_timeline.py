@@ -123,7 +123,7 @@ class Squares(Pictures):
         take_trace(model, trace, None, True)
         with self.file("lines", "tick:0,T\np:0,T\np:1,T\ntick:1,T\np:4,F\ntick:4,T\n").open("rb") as lines:
             take_lines(model, lines, "", "tick")
-        self.assertEqual(list(model.lanes["p"].told), [(0, 1, 3), (2, 4, 5)])
+        self.assertEqual(list(model.lanes["p"].printed), [(0, 1, 3), (2, 4, 5)])
 
 
 class Bars(Pictures):

@@ -9,7 +9,7 @@ from support import Case
 
 from r2u2tools.common import traces
 from r2u2tools.common.program_file import Signal
-from r2u2tools.common.cli import Trouble
+from r2u2tools.common.cli import ToolError
 from r2u2tools.common.verdict_lines import Reader
 
 
@@ -70,7 +70,7 @@ class Traces(Case):
             file.read1 = lambda _: io.BytesIO.read(file, size)
             try:
                 trace = traces.filled(file, None, None)
-            except Trouble as trouble:
+            except ToolError as trouble:
                 return str(trouble)
             return runs(trace), trace.times, trace.stamps
 
@@ -94,10 +94,10 @@ class Traces(Case):
 
     def test_faults(self):
         for text, said in [("# a,b\n1\n", "line 2: too few"), ("@0,1\n@0,1\n", "line 2: times"), ("@x,1\n", "line 1: bad time")]:
-            with self.assertRaises(Trouble) as caught:
+            with self.assertRaises(ToolError) as caught:
                 self.read(text)
             self.assertIn(said, str(caught.exception))
-        with self.assertRaises(Trouble) as caught:
+        with self.assertRaises(ToolError) as caught:
             traces.read_trace(self.folder / "nothing.csv")
         self.assertEqual(str(caught.exception), f"cannot open {self.folder}/nothing.csv: No such file or directory")
 
@@ -116,7 +116,7 @@ class VerdictLines(Case):
         try:
             for name, times, words in read(Reader("x"), io.BytesIO(text)):
                 found.setdefault(name, []).extend(zip(times, words))
-        except Trouble as trouble:
+        except ToolError as trouble:
             return str(trouble)
         return list(found.items())
 

@@ -44,7 +44,7 @@ def chosen(argv: list[str]) -> str:
     if name in TOOLS:
         return name
     argv[0] = "r2u2-tools"
-    parser = cli.words((__doc__ or "").format(questions=questions()))
+    parser = cli.parser((__doc__ or "").format(questions=questions()))
     parser.add_argument("name", metavar="NAME", choices=list(TOOLS), help="the tool")
     name = parser.parse_args(argv[1:2]).name
     argv[:2] = [f"r2u2-{name}"]

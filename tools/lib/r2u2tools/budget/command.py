@@ -56,7 +56,7 @@ from r2u2tools.budget.costs import Costs
 from r2u2tools.budget.library import bytes_of, why_none
 from r2u2tools.common.program_file import PARTS, Place
 from r2u2tools.common.expressions import shortened
-from r2u2tools.common.cli import Trouble
+from r2u2tools.common.cli import ToolError
 from r2u2tools.common.tables import in_columns
 
 HEADS = ("", *PARTS, "slots", "boxes", "delay", "steps", "reports")
@@ -69,23 +69,23 @@ def rate_of(word: str) -> Fraction:
     return Fraction(word)
 
 
-def asked() -> Namespace:
-    words = cli.words(__doc__)
-    words.add_argument("--rate", metavar="HZ", type=rate_of, help="rows a second, as 10 or 0.5")
-    words.add_argument("--top", metavar="N", type=cli.count, default=5, help="how many of the costliest formulas to print; 5")
-    words.add_argument("--json", action="store_true", help="print one object of JSON in place of the tables")
-    words.add_argument("--max-slots", metavar="N", type=cli.count, help="the most slots and boxes together")
-    words.add_argument("--max-steps", metavar="N", type=cli.count, help="the most steps of one row")
-    words.add_argument("--max-reports", metavar="N", type=cli.count, help="the most reports of one row")
-    words.add_argument("--max-delay", metavar="N", help="the most rows of delay, or with --rate seconds, as 0.5s")
-    words.add_argument("--max-bytes", metavar="N", type=cli.count, help="the most bytes of memory of a monitor")
-    words.add_argument("spec", metavar="SPEC", help="a specification or a compiled program")
-    found = words.parse_args()
-    limit = DELAY.fullmatch(found.max_delay or "0")
-    if not limit or (limit[2] and not found.rate) or (not limit[2] and "." in limit[1]):
-        raise Trouble(f"--max-delay {found.max_delay}: give rows, as 5, or with --rate seconds, as 0.5s")
-    found.max_rows = Fraction(limit[1]) * (found.rate if limit[2] else 1) if found.max_delay else None
-    return found
+def parse_args() -> Namespace:
+    parser = cli.parser(__doc__)
+    parser.add_argument("--rate", metavar="HZ", type=rate_of, help="rows a second, as 10 or 0.5")
+    parser.add_argument("--top", metavar="N", type=cli.count, default=5, help="how many of the costliest formulas to print; 5")
+    parser.add_argument("--json", action="store_true", help="print one object of JSON in place of the tables")
+    parser.add_argument("--max-slots", metavar="N", type=cli.count, help="the most slots and boxes together")
+    parser.add_argument("--max-steps", metavar="N", type=cli.count, help="the most steps of one row")
+    parser.add_argument("--max-reports", metavar="N", type=cli.count, help="the most reports of one row")
+    parser.add_argument("--max-delay", metavar="N", help="the most rows of delay, or with --rate seconds, as 0.5s")
+    parser.add_argument("--max-bytes", metavar="N", type=cli.count, help="the most bytes of memory of a monitor")
+    parser.add_argument("spec", metavar="SPEC", help="a specification or a compiled program")
+    args = parser.parse_args()
+    limit = DELAY.fullmatch(args.max_delay or "0")
+    if not limit or (limit[2] and not args.rate) or (not limit[2] and "." in limit[1]):
+        raise ToolError(f"--max-delay {args.max_delay}: give rows, as 5, or with --rate seconds, as 0.5s")
+    args.max_rows = Fraction(limit[1]) * (args.rate if limit[2] else 1) if args.max_delay else None
+    return args
 
 
 def seconds(rows: int, rate: Fraction) -> str:
@@ -95,25 +95,25 @@ def seconds(rows: int, rate: Fraction) -> str:
 def line_of(costs: Costs, places: set[Place], names: list[str], rate: Optional[Fraction]) -> dict[str, Any]:
     """What some instructions cost, with the delay and the reports of these outputs."""
     delay = max(map(costs.delay, names), default=0)
-    told: dict[str, Any] = {part: costs.count(places, part) for part in PARTS}
-    told |= {"slots": costs.sizes(places, "ft"), "boxes": costs.sizes(places, "pt"), "delay": delay}
+    line: dict[str, Any] = {part: costs.count(places, part) for part in PARTS}
+    line |= {"slots": costs.sizes(places, "ft"), "boxes": costs.sizes(places, "pt"), "delay": delay}
     if rate:
-        told["seconds"] = float(delay / rate)
+        line["seconds"] = float(delay / rate)
     reports = sum(map(costs.reports, names))
-    return told | {"steps": costs.steps(places) + 2 * len(names) + 2 * reports, "reports": reports}
+    return line | {"steps": costs.steps(places) + 2 * len(names) + 2 * reports, "reports": reports}
 
 
-def figures(costs: Costs, asked: Namespace) -> dict[str, Any]:
+def figures(costs: Costs, args: Namespace) -> dict[str, Any]:
     """All that is printed, as one object."""
-    whole = line_of(costs, set(costs.all), list(costs.cones), asked.rate)
+    whole = line_of(costs, set(costs.all), list(costs.cones), args.rate)
     whole["steps"] += costs.width + 3
     if not why_none():
         whole["bytes"] = bytes_of(costs.made.flown())
-    outputs = [{"name": name} | line_of(costs, cone, [name], asked.rate) for name, cone in costs.cones.items()]
+    outputs = [{"name": name} | line_of(costs, cone, [name], args.rate) for name, cone in costs.cones.items()]
     return {
         "whole": whole,
         "outputs": outputs,
-        "costliest": [formula(costs, place) for place in costs.costliest(asked.top)],
+        "costliest": [formula(costs, place) for place in costs.costliest(args.top)],
         "shared": [formula(costs, place) for place in costs.shared()],
     }
 
@@ -126,23 +126,23 @@ def formula(costs: Costs, place: Place) -> dict[str, Any]:
     return found | {"outputs": costs.readers[place]}
 
 
-def words_of(name: str, told: dict[str, Any], rate: Optional[Fraction]) -> list[str]:
-    delay = f"{told['delay']} rows" + (f", {seconds(told['delay'], rate)} s" if rate else "")
-    return [name, *(str(told[part]) for part in (*PARTS, "slots", "boxes")), delay, str(told["steps"]), str(told["reports"])]
+def words_of(name: str, line: dict[str, Any], rate: Optional[Fraction]) -> list[str]:
+    delay = f"{line['delay']} rows" + (f", {seconds(line['delay'], rate)} s" if rate else "")
+    return [name, *(str(line[part]) for part in (*PARTS, "slots", "boxes")), delay, str(line["steps"]), str(line["reports"])]
 
 
-def named(told: dict[str, Any]) -> str:
+def named(line: dict[str, Any]) -> str:
     """A formula by its name, where it has one, and its text."""
-    return shortened(f"{told['name']}: {told['formula']}" if "name" in told else told["formula"])
+    return shortened(f"{line['name']}: {line['formula']}" if "name" in line else line["formula"])
 
 
 def few(names: list[str]) -> str:
     return ", ".join(names[:5]) + (f" and {len(names) - 5} more" if len(names) > 5 else "")
 
 
-def sizes(told: dict[str, Any]) -> Iterable[str]:
+def sizes(line: dict[str, Any]) -> Iterable[str]:
     """The slots and the boxes of a formula, of which it has one kind."""
-    return (str(told["size"] * (told["part"] == part) or "") for part in ("ft", "pt"))
+    return (str(line["size"] * (line["part"] == part) or "") for part in ("ft", "pt"))
 
 
 def as_text(found: dict[str, Any], rate: Optional[Fraction]) -> Iterator[str]:
@@ -160,31 +160,31 @@ def as_text(found: dict[str, Any], rate: Optional[Fraction]) -> Iterator[str]:
         yield from (f"  {named(it)}  by {few(it['outputs'])}" for it in found["shared"])
 
 
-def above(found: dict[str, Any], asked: Namespace) -> Iterator[str]:
+def above(found: dict[str, Any], args: Namespace) -> Iterator[str]:
     """What is above a limit, in words."""
     whole = found["whole"]
     sizes = whole["slots"] + whole["boxes"]
-    if asked.max_slots is not None and sizes > asked.max_slots:
-        yield f"{sizes} slots and boxes, above {asked.max_slots}"
-    if asked.max_steps is not None and whole["steps"] > asked.max_steps:
-        yield f"{whole['steps']} steps in one row, above {asked.max_steps}"
-    if asked.max_reports is not None and whole["reports"] > asked.max_reports:
-        yield f"{whole['reports']} reports in one row, above {asked.max_reports}"
-    if asked.max_bytes is not None and whole["bytes"] > asked.max_bytes:
-        yield f"{whole['bytes']} bytes, above {asked.max_bytes}"
-    for it in found["outputs"] if asked.max_rows is not None else ():
-        if it["delay"] > asked.max_rows:
-            yield f"{it['name']}: a delay of {it['delay']} rows, above {asked.max_delay}"
+    if args.max_slots is not None and sizes > args.max_slots:
+        yield f"{sizes} slots and boxes, above {args.max_slots}"
+    if args.max_steps is not None and whole["steps"] > args.max_steps:
+        yield f"{whole['steps']} steps in one row, above {args.max_steps}"
+    if args.max_reports is not None and whole["reports"] > args.max_reports:
+        yield f"{whole['reports']} reports in one row, above {args.max_reports}"
+    if args.max_bytes is not None and whole["bytes"] > args.max_bytes:
+        yield f"{whole['bytes']} bytes, above {args.max_bytes}"
+    for it in found["outputs"] if args.max_rows is not None else ():
+        if it["delay"] > args.max_rows:
+            yield f"{it['name']}: a delay of {it['delay']} rows, above {args.max_delay}"
 
 
 def main() -> int:
-    given = asked()
-    if given.max_bytes is not None and why_none():
-        raise Trouble(f"--max-bytes {given.max_bytes}: {why_none()}")
+    args = parse_args()
+    if args.max_bytes is not None and why_none():
+        raise ToolError(f"--max-bytes {args.max_bytes}: {why_none()}")
     with tempfile.TemporaryDirectory(prefix="budget-") as folder:
-        found = figures(Costs(compiled(given.spec, folder)), given)
-    print(json.dumps(found, indent=2) if given.json else "\n".join(as_text(found, given.rate)))
-    faults = list(above(found, given))
+        found = figures(Costs(compiled(args.spec, folder)), args)
+    print(json.dumps(found, indent=2) if args.json else "\n".join(as_text(found, args.rate)))
+    faults = list(above(found, args))
     for fault in faults:
         cli.note(fault)
     return 1 if faults else 0

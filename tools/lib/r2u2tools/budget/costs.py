@@ -19,7 +19,7 @@ class Costs:
         self.width = int.from_bytes(made.flown()[8:12], "little")
         self.all, self.refs = made.program.instructions, made.shown.refs
         self.best, self.worst = delays(self.all, min), delays(self.all, max)
-        self.roots = {told.name: told.roots for told in made.program.outputs}
+        self.roots = {output.name: output.roots for output in made.program.outputs}
         self.cones = {name: self.below(roots) for name, roots in self.roots.items()}
         self.readers: dict[Place, list[str]] = {place: [] for place in self.all}
         for name, cone in self.cones.items():

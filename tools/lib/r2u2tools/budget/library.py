@@ -6,7 +6,7 @@ import ctypes
 import os
 
 from r2u2tools.common.programs import BUILT
-from r2u2tools.common.cli import Trouble
+from r2u2tools.common.cli import ToolError
 
 DONE, NO_MEMORY = 0, 4
 # The repository, or the folder share/r2u2 of what `make install` put under a PREFIX.
@@ -36,12 +36,12 @@ def bytes_of(program: bytes) -> int:
     try:
         call = ctypes.CDLL(path()).r2u2_bytes
     except (OSError, AttributeError) as fault:
-        raise Trouble(f"cannot use {path()}: {fault}") from None
+        raise ToolError(f"cannot use {path()}: {fault}") from None
     number = ctypes.c_uint64
     call.argtypes = [ctypes.c_char_p, ctypes.c_size_t, ctypes.POINTER(number), ctypes.POINTER(_Fault)]
     call.restype = ctypes.c_uint32
-    found, told = number(), _Fault()
-    code = call(program, len(program), found, told)
+    found, fault_of_call = number(), _Fault()
+    code = call(program, len(program), found, fault_of_call)
     if code != DONE:
-        raise Trouble("out of memory" if code == NO_MEMORY else told.text.decode("ascii", "replace"))
+        raise ToolError("out of memory" if code == NO_MEMORY else fault_of_call.text.decode("ascii", "replace"))
     return int(found.value)

@@ -45,24 +45,24 @@ from r2u2tools.common import cli
 from r2u2tools.common.specs import MAGIC
 
 
-def asked() -> Namespace:
-    words = cli.words(__doc__)
-    words.add_argument("--json", action="store_true", help="print one object of JSON")
-    words.add_argument("--sarif", action="store_true", help="print SARIF 2.1.0, as tools for reviews of code take it")
-    words.add_argument("--timed", action="store_true", help="the rows of TRACE have stamps")
-    words.add_argument("--format", action="store_true", help="print the specification with its blanks set in one way")
-    words.add_argument("--diff", action="store_true", help="with --format: print what would change")
-    words.add_argument("--write", action="store_true", help="with --format: change the file")
-    words.add_argument("--server", action="store_true", help="serve an editor by the language server protocol")
-    words.add_argument("specs", metavar="SPEC", nargs="*", help="a specification, or - for the standard input; then a trace")
-    found = words.parse_args()
-    if found.server == bool(found.specs):
-        words.error("give specifications, or --server alone")
-    if (found.diff or found.write) and not found.format:
-        words.error("--diff and --write need --format")
-    if found.write and "-" in found.specs:
-        words.error("--write needs files")
-    return found
+def parse_args() -> Namespace:
+    parser = cli.parser(__doc__)
+    parser.add_argument("--json", action="store_true", help="print one object of JSON")
+    parser.add_argument("--sarif", action="store_true", help="print SARIF 2.1.0, as tools for reviews of code take it")
+    parser.add_argument("--timed", action="store_true", help="the rows of TRACE have stamps")
+    parser.add_argument("--format", action="store_true", help="print the specification with its blanks set in one way")
+    parser.add_argument("--diff", action="store_true", help="with --format: print what would change")
+    parser.add_argument("--write", action="store_true", help="with --format: change the file")
+    parser.add_argument("--server", action="store_true", help="serve an editor by the language server protocol")
+    parser.add_argument("specs", metavar="SPEC", nargs="*", help="a specification, or - for the standard input; then a trace")
+    args = parser.parse_args()
+    if args.server == bool(args.specs):
+        parser.error("give specifications, or --server alone")
+    if (args.diff or args.write) and not args.format:
+        parser.error("--diff and --write need --format")
+    if args.write and "-" in args.specs:
+        parser.error("--write needs files")
+    return args
 
 
 def text_of(path: str) -> str:
@@ -70,11 +70,11 @@ def text_of(path: str) -> str:
     with cli.opened(path) as file:
         raw = file.read(LARGEST + 1)
     if raw.startswith(MAGIC):
-        raise cli.Trouble(f"{path}: a compiled program, not a specification")
+        raise cli.ToolError(f"{path}: a compiled program, not a specification")
     if b"\0" in raw:
-        raise cli.Trouble(f"{path}: not a text of UTF-8: it has a byte 0")
+        raise cli.ToolError(f"{path}: not a text of UTF-8: it has a byte 0")
     if len(raw) > LARGEST:
-        raise cli.Trouble(f"{path}: longer than {LARGEST} bytes")
+        raise cli.ToolError(f"{path}: longer than {LARGEST} bytes")
     return decoded(raw)
 
 
@@ -88,44 +88,44 @@ def replaced(path: str, text: str) -> None:
     try:
         Path(path).write_bytes(encoded(text))
     except OSError as fault:
-        raise cli.told_os(path, "write", fault) from None
+        raise cli.os_error(path, "write", fault) from None
 
 
-def formatted(found: Namespace) -> int:
+def formatted(args: Namespace) -> int:
     """Formats files: to the standard output, or into the files, or only what would change."""
     changed = False
-    for path in found.specs:
+    for path in args.specs:
         text = text_of(path)
         new = layout.laid_out(text)
         changed |= new != text
-        if found.diff:
+        if args.diff:
             lines = difflib.unified_diff(text.splitlines(True), new.splitlines(True), path, path)
             written("".join(line if line.endswith("\n") else line + "\n" for line in lines))
-        elif not found.write:
+        elif not args.write:
             written(new)
         elif new != text:
             replaced(path, new)
-    return 1 if found.diff and changed else 0
+    return 1 if args.diff and changed else 0
 
 
 def main() -> int:
-    found = asked()
-    if found.server:
+    args = parse_args()
+    if args.server:
         # A separate stream: a thread that still waits for it must not find it closed with the interpreter.
         return Server(os.fdopen(os.dup(0), "rb"), sys.stdout.buffer).run()
-    if found.format:
-        return formatted(found)
-    specs, traces = parted(found.specs)
+    if args.format:
+        return formatted(args)
+    specs, traces = parted(args.specs)
     checked = [(path, check(text_of(path))) for path in specs]
-    if not any(told.answer.status for _, told in checked):
-        checked += [(path, check_trace(specs[0], path, found.timed)) for path in traces]
-    if found.json or found.sarif:
-        print(report.as_sarif(checked) if found.sarif else report.as_json(checked))
+    if not any(found.answer.status for _, found in checked):
+        checked += [(path, check_trace(specs[0], path, args.timed)) for path in traces]
+    if args.json or args.sarif:
+        print(report.as_sarif(checked) if args.sarif else report.as_json(checked))
     else:
-        for path, told in checked:
-            for line in report.as_text(path, told):
+        for path, found in checked:
+            for line in report.as_text(path, found):
                 print(line)
-    return 1 if any(told.answer.status or any(it.level == "error" for it in told.faults) for _, told in checked) else 0
+    return 1 if any(found.answer.status or any(it.level == "error" for it in found.faults) for _, found in checked) else 0
 
 
 def parted(paths: List[str]) -> Tuple[List[str], List[str]]:

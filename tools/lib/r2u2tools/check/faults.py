@@ -16,7 +16,7 @@ from typing import Iterator, List, Optional, Set, Tuple
 from r2u2tools.check import grammar, notes
 from r2u2tools.check.rewrites import rewritten
 from r2u2tools.check.source import QUANTIFIERS, Item, Source, Token, encoded, read
-from r2u2tools.common.cli import Trouble
+from r2u2tools.common.cli import ToolError
 from r2u2tools.common.programs import program, ran
 
 # How many faults are looked for, and how long.
@@ -81,7 +81,7 @@ def ask(text: str) -> Answer:
     """What c2po says of a text."""
     status, _, message = ran([program("c2po"), "-o", "/dev/null", "-"], encoded(text))
     if status not in (0, *OF_THE_TEXT):
-        raise Trouble(message.removeprefix("c2po: ") or f"c2po ended with status {status}")
+        raise ToolError(message.removeprefix("c2po: ") or f"c2po ended with status {status}")
     return Answer(status, message.removeprefix("c2po: "))
 
 

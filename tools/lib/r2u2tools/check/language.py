@@ -9,7 +9,7 @@ from typing import Any, Dict, Iterator, List, Optional, Tuple
 
 from r2u2tools.check.faults import Report, ask, spread
 from r2u2tools.check.source import RESERVED, Item, Source, Token
-from r2u2tools.common.cli import Trouble
+from r2u2tools.common.cli import ToolError
 from r2u2tools.common.programs import ran, tool
 
 SECONDS = 5
@@ -122,12 +122,12 @@ class Document:
         """The kind of a definition, as c2po takes it, and its cost where it is a formula."""
         if self.report is None:
             return "a definition", text, ""
-        told, past = self.asked(name, "FTSPEC"), False
-        if told == "mixed tense":
-            told, past = self.asked(name, "PTSPEC"), True
-        if not told:
+        refusal, past = self.asked(name, "FTSPEC"), False
+        if refusal == "mixed tense":
+            refusal, past = self.asked(name, "PTSPEC"), True
+        if not refusal:
             return "bool, a definition", text, self.cost(name, "PTSPEC" if past else "FTSPEC")
-        if told == "wrong kind" and not self.asked(f"{name} == 0", "FTSPEC"):
+        if refusal == "wrong kind" and not self.asked(f"{name} == 0", "FTSPEC"):
             return "int, a definition", text, ""
         return ("a set" if item.body() and item.body()[0].text == "{" else "a definition"), text, ""
 
@@ -214,7 +214,7 @@ def cost_of(text: str, name: str) -> str:
         try:
             _, out, _ = ran([*tool("budget"), "--json", "--top", "0", str(spec)], timeout=SECONDS)
             outputs = json.loads(out)["outputs"] if out else []
-        except (Trouble, ValueError, KeyError, subprocess.TimeoutExpired):
+        except (ToolError, ValueError, KeyError, subprocess.TimeoutExpired):
             return ""
     for it in outputs:
         if it["name"] == name:

@@ -16,7 +16,7 @@ from r2u2tools.check.faults import MEANT, Fault, Report, check
 from r2u2tools.check.language import Document
 from r2u2tools.check.layout import laid_out
 from r2u2tools.check.source import LARGEST, NAME, RESERVED, Token, encoded, read
-from r2u2tools.common.cli import Trouble
+from r2u2tools.common.cli import ToolError
 
 LONGEST = 1 << 24
 UNKNOWN, WRONG, FAILED, NOT_YET = -32601, -32602, -32603, -32002
@@ -132,7 +132,7 @@ def checked(text: str, writer: Connection) -> None:
     """The work of that process."""
     try:
         writer.send((check(text), ""))
-    except (Trouble, OSError, subprocess.SubprocessError) as fault:
+    except (ToolError, OSError, subprocess.SubprocessError) as fault:
         writer.send((None, str(fault)))
     except BaseException:
         os._exit(1)
@@ -205,7 +205,7 @@ class Server:
                 self.refuse(message, fault.code, str(fault))
             except (KeyError, TypeError, ValueError, IndexError) as fault:
                 self.refuse(message, WRONG, f"the request lacks something: {fault}")
-            except (Trouble, OSError, subprocess.SubprocessError) as fault:
+            except (ToolError, OSError, subprocess.SubprocessError) as fault:
                 self.refuse(message, FAILED, str(fault))
 
     def refuse(self, message: Message, code: int, text: str) -> None:
@@ -361,17 +361,17 @@ class Server:
         lines, wanted = document.source.lines(), given["range"]
         found = []
         for fault in document.report.faults if document.report else ():
-            told = diagnostic(lines, fault)
-            first, last = (tuple(told["range"][end].values()) for end in ("start", "end"))
+            problem = diagnostic(lines, fault)
+            first, last = (tuple(problem["range"][end].values()) for end in ("start", "end"))
             if first <= tuple(wanted["end"].values()) and tuple(wanted["start"].values()) <= last:
-                found += [self.action(uri, told, f"Write {name}", told["range"], name) for name in MEANT.findall(fault.text())]
+                found += [self.action(uri, problem, f"Write {name}", problem["range"], name) for name in MEANT.findall(fault.text())]
                 line = lines[fault.line - 1]
                 if not found and fault.note and fault.note.wrong and fault.note.wrong == line:
-                    found.append(self.action(uri, told, f"Write {fault.note.right}", span(lines, fault.line, 0, len(line)), fault.note.right))
+                    found.append(self.action(uri, problem, f"Write {fault.note.right}", span(lines, fault.line, 0, len(line)), fault.note.right))
         return found
 
-    def action(self, uri: str, told: Message, title: str, place: Message, text: str) -> Message:
-        return {"title": title, "kind": "quickfix", "diagnostics": [told], "edit": {"changes": {uri: [edit(place, text)]}}}
+    def action(self, uri: str, problem: Message, title: str, place: Message, text: str) -> Message:
+        return {"title": title, "kind": "quickfix", "diagnostics": [problem], "edit": {"changes": {uri: [edit(place, text)]}}}
 
     def symbols(self, given: Message) -> List[Message]:
         """The names that a text declares, for the outline of an editor."""

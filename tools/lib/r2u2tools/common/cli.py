@@ -16,7 +16,7 @@ from typing import IO, Any, Callable, NoReturn, Optional, Union
 TROUBLE = 2
 
 
-class Trouble(Exception):
+class ToolError(Exception):
     """What is wrong, in one line, with its place."""
 
     def __init__(self, text: str, status: int = TROUBLE) -> None:
@@ -51,7 +51,7 @@ def note(text: object) -> None:
     print(f"{name()}: {text}", file=sys.stderr, flush=True)
 
 
-class Words(argparse.ArgumentParser):
+class Parser(argparse.ArgumentParser):
     """A reader of the command line that prints a fault in one line."""
 
     def error(self, message: str) -> NoReturn:
@@ -68,11 +68,11 @@ def plain(text: str) -> str:
     return "".join(letter if letter.isprintable() or letter in "\t\n" else "\N{REPLACEMENT CHARACTER}" for letter in text)
 
 
-def words(doc: Optional[str], **more: Any) -> Words:
+def parser(doc: Optional[str], **more: Any) -> Parser:
     """A reader of the command line: its text for --help, and the forms that it shows, are those at the top of the tool."""
     head, usage, body = (doc or "").split("\n\n", 2)
     forms = re.sub(r"^(usage: | {7})[\w-]+", lambda found: found[1] + "%(prog)s", usage, flags=re.M)
-    return Words(
+    return Parser(
         prog=name(),
         usage=forms.removeprefix("usage: "),
         description=f"{head}\n\n{body}".strip(),
@@ -121,7 +121,7 @@ def prepare() -> None:
             stream.reconfigure(encoding="utf-8", errors="replace")
 
 
-def ended(main: Callable[[], Any]) -> Any:
+def exit_status(main: Callable[[], Any]) -> Any:
     """Runs a tool, and returns its exit code when all that it printed is written."""
     try:
         status = main()
@@ -135,8 +135,8 @@ def run(main: Callable[[], Any]) -> NoReturn:
     """Runs a tool to its end: a closed pipe or a signal ends it without a message, trouble with one line."""
     prepare()
     try:
-        status = ended(main)
-    except Trouble as trouble:
+        status = exit_status(main)
+    except ToolError as trouble:
         note(trouble)
         status = trouble.status
     except OSError as fault:
@@ -153,16 +153,16 @@ def run(main: Callable[[], Any]) -> NoReturn:
     sys.exit(status)
 
 
-def told_os(path: object, doing: str, fault: OSError) -> Trouble:
-    """Trouble with a file: `cannot open x.csv: No such file or directory`."""
-    return Trouble(f"cannot {doing} {path}: {fault.strerror}")
+def os_error(path: object, doing: str, fault: OSError) -> ToolError:
+    """ToolError with a file: `cannot open x.csv: No such file or directory`."""
+    return ToolError(f"cannot {doing} {path}: {fault.strerror}")
 
 
 def opened(path: Union[str, Path]) -> IO[bytes]:
     """A file as bytes, or the standard input for `-`."""
     if str(path) == "-":
         if sys.stdin is None:
-            raise Trouble("cannot read the standard input: it is closed")
+            raise ToolError("cannot read the standard input: it is closed")
         return sys.stdin.buffer
     try:
         file = open(path, "rb")
@@ -170,4 +170,8 @@ def opened(path: Union[str, Path]) -> IO[bytes]:
             raise IsADirectoryError(21, "Is a directory")
         return file
     except OSError as fault:
-        raise told_os(path, "open", fault) from None
+        raise os_error(path, "open", fault) from None
+
+
+# What generate and signals call these.
+Trouble, told_os, words = ToolError, os_error, parser

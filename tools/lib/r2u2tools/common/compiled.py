@@ -14,7 +14,7 @@ from r2u2tools.common.program_file import Program, read_program
 from r2u2tools.common.programs import ran
 from r2u2tools.common.program_text import Bare, Count, ProgramText, Requirement, program_text
 from r2u2tools.common.specs import MAGIC, Item, Spec, Token, read_spec
-from r2u2tools.common.cli import Trouble, opened
+from r2u2tools.common.cli import ToolError, opened
 
 REFUSED = re.compile(r"c2po: line (\d+): (.*)")
 QUANTIFIERS = ("foreach", "forsome", "forexactly", "foratleast", "foratmost")
@@ -46,7 +46,7 @@ def make(spec: FilePath, out: FilePath, *words: str) -> None:
     """Compiles a specification; what c2po says of it is printed as it is."""
     status, _, text = ran([programs.program("c2po"), *words, "-o", str(out), str(spec)])
     if status:
-        raise Trouble(text.removeprefix("c2po: ") if text else f"c2po ended with status {status}")
+        raise ToolError(text.removeprefix("c2po: ") if text else f"c2po ended with status {status}")
 
 
 def compiled(path: FilePath, folder: FilePath) -> Compiled:
@@ -56,14 +56,14 @@ def compiled(path: FilePath, folder: FilePath) -> Compiled:
         is_program = file.read(len(MAGIC)) == MAGIC
     try:
         make(path, out, *["--upgrade"] * is_program)
-    except Trouble as trouble:
-        raise Trouble(f"{path}: {trouble}") from None
+    except ToolError as trouble:
+        raise ToolError(f"{path}: {trouble}") from None
     given = read_spec(path)
     program = read_program(str(path), out.read_bytes())
     made = Compiled(out, program, program_text(program), given, is_program and given.raw[4:6] == b"\x01\x00")
     if not is_program:
-        for told, output in zip(made.shown.outputs, given.outputs):
-            told.texts.update(zip(told.operands(), texts_of(given.text, output.body)))
+        for requirement, output in zip(made.shown.outputs, given.outputs):
+            requirement.texts.update(zip(requirement.operands(), texts_of(given.text, output.body)))
         name(made.shown, given, folder)
     return made
 
@@ -106,13 +106,13 @@ def with_outputs(given: Spec, asked: dict[str, str], folder: FilePath) -> Option
         status, _, refusal = ran([programs.program("c2po"), "-o", str(out), str(spec)])
         if not status:
             return text_of(out), list(left)
-        told = REFUSED.fullmatch(refusal)
-        if not told or not 0 <= int(told[1]) - first < len(left):
+        match = REFUSED.fullmatch(refusal)
+        if not match or not 0 <= int(match[1]) - first < len(left):
             return None
-        formula = list(left)[int(told[1]) - first]
-        if told[2] == "expansion too large":
-            left = dict(list(left.items())[: int(told[1]) - first])
-        elif told[2] == "mixed tense" and formula not in turned:
+        formula = list(left)[int(match[1]) - first]
+        if match[2] == "expansion too large":
+            left = dict(list(left.items())[: int(match[1]) - first])
+        elif match[2] == "mixed tense" and formula not in turned:
             turned.add(formula)
             left[formula] = "PTSPEC" if left[formula] == "FTSPEC" else "FTSPEC"
         else:
@@ -123,8 +123,8 @@ def with_outputs(given: Spec, asked: dict[str, str], folder: FilePath) -> Option
 def equal_parts(text: ProgramText, other: ProgramText) -> Iterator[tuple[int, str, bool]]:
     """Of each output of another program, by number, the parts that it equals here, and whether it denies them."""
     equal = text.equals_of(other)
-    for number, told in enumerate(other.outputs):
-        bare, denied = other.bare(told.left)
+    for number, output in enumerate(other.outputs):
+        bare, denied = other.bare(output.left)
         for ref in equal.get(bare, [bare] if bare in text.signals else []):
             yield number, ref, denied
 
@@ -138,11 +138,11 @@ def name(text: ProgramText, given: Spec, folder: FilePath) -> None:
             text.called.setdefault((ref, denied), names[number])
 
 
-def quote(made: Compiled, told: Requirement, folder: FilePath) -> None:
+def quote(made: Compiled, requirement: Requirement, folder: FilePath) -> None:
     """Gives the parts of an output the spelling of its specification."""
     if made.given.is_program():
         return
-    output = made.given.outputs[made.shown.outputs.index(told)]
+    output = made.given.outputs[made.shown.outputs.index(requirement)]
     counts = dict(written_counts(made.given, output.body))
     texts = [*written_formulas(made.given, output.body), *counts, *(it for _, _, members in counts.values() for it in members)]
     if found := with_outputs(made.given, dict.fromkeys(texts, output.section), folder):

@@ -11,7 +11,7 @@ from dataclasses import dataclass
 from typing import Iterator, Optional, Sequence
 
 from r2u2tools.common.specs import Token, tokens
-from r2u2tools.common.cli import Trouble
+from r2u2tools.common.cli import ToolError
 
 # How tightly an operator binds; `!` and the operators of time before one operand lie between.
 BINARY = {"=>": 0, "<->": 1, "->": 2, "||": 3, "&&": 4, "U": 5, "R": 5, "S": 5}
@@ -179,7 +179,7 @@ def shortened(text: str, room: int = 72) -> str:
         return text
     try:
         read = tokens(text.replace("...", "_"))
-    except Trouble:
+    except ToolError:
         return f"a formula of {len(text)} letters"
     tree = tree_of(read)
     return Shortener(text.replace("...", "_"), read).within(tree, room) if tree else f"a formula of {len(text)} letters"

@@ -9,7 +9,7 @@ from contextlib import contextmanager
 from pathlib import Path
 from typing import IO, Any, Iterator, Optional, Sequence, Union
 
-from r2u2tools.common.cli import told_os
+from r2u2tools.common.cli import os_error
 
 
 class Output:
@@ -25,7 +25,7 @@ class Output:
             self.begin()
         except OSError as fault:
             self.__exit__()
-            raise told_os(self.path, "write", fault) from None
+            raise os_error(self.path, "write", fault) from None
         except BaseException:
             self.__exit__()
             raise
@@ -55,7 +55,7 @@ class Output:
         try:
             yield
         except OSError as fault:
-            raise told_os(self.path or "the standard output", "write", fault) from None
+            raise os_error(self.path or "the standard output", "write", fault) from None
 
     def line(self, text: str) -> None:
         self.write(text + "\n")

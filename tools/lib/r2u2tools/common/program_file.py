@@ -7,7 +7,7 @@ from dataclasses import dataclass
 from itertools import islice
 from typing import Iterator, Sequence
 
-from r2u2tools.common.cli import Trouble
+from r2u2tools.common.cli import ToolError
 
 # The part and the number of an instruction.
 Place = tuple[str, int]
@@ -98,7 +98,7 @@ def read_program(path: str, raw: bytes) -> Program:
     try:
         return parsed(raw)
     except (struct.error, UnicodeDecodeError, IndexError):
-        raise Trouble(f"{path}: not a program that c2po wrote") from None
+        raise ToolError(f"{path}: not a program that c2po wrote") from None
 
 
 def parsed(raw: bytes) -> Program:

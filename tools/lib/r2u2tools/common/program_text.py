@@ -10,7 +10,7 @@ from dataclasses import dataclass, field
 from itertools import count, product
 from typing import Optional
 
-from r2u2tools.common.cli import Trouble
+from r2u2tools.common.cli import ToolError
 from r2u2tools.common.program_file import Place, Program
 
 # A formula without the denials around it, and whether it is denied.
@@ -96,12 +96,12 @@ class ProgramText:
     counts: dict[Bare, Count] = field(default_factory=dict)
 
     def output(self, name: str) -> Requirement:
-        for told in self.outputs:
-            if told.name == name:
-                return told
-        names = [told.name for told in self.outputs]
+        for output in self.outputs:
+            if output.name == name:
+                return output
+        names = [output.name for output in self.outputs]
         known = f"there {'is' if len(names) == 1 else 'are'} {', '.join(names[:20])}" if names else "there is none"
-        raise Trouble(f"no output {name}: {known}")
+        raise ToolError(f"no output {name}: {known}")
 
     def op(self, ref: str) -> Optional[str]:
         return self.nodes[ref].op if ref in self.nodes else None
@@ -284,7 +284,7 @@ def program_text(program: Program) -> ProgramText:
             found.refs[place] = reads[0]
         else:
             found.refs[place] = columns[it.value] if it.op in ("column", "istrue") else str(it.value) if it.op == "const" else "true"
-    for told in program.outputs:
-        refs = [found.refs[root] for root in told.roots]
-        found.outputs.append(Requirement(told.name, told.section, refs[0], refs[1] if len(refs) > 1 else ""))
+    for output in program.outputs:
+        refs = [found.refs[root] for root in output.roots]
+        found.outputs.append(Requirement(output.name, output.section, refs[0], refs[1] if len(refs) > 1 else ""))
     return found

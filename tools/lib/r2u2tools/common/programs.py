@@ -10,7 +10,7 @@ import tempfile
 from pathlib import Path
 from typing import Any, Optional, Sequence
 
-from r2u2tools.common.cli import Trouble, note
+from r2u2tools.common.cli import ToolError, note
 
 LIBRARY = Path(__file__).resolve().parents[2]
 # The repository, or the folder share/r2u2 that `make install` or pip filled.
@@ -31,7 +31,7 @@ def program(name: str) -> str:
     path = next((place for place in places if place and os.access(place, os.X_OK)), None)
     if not path:
         where = asked or f"{name} in {OWN if INSTALLED else 'build/ or build/unproved/'} or on the path"
-        raise Trouble(f"no program {where}: `make` builds it, `make unproved` without a proof, and {name.upper()} may name another")
+        raise ToolError(f"no program {where}: `make` builds it, `make unproved` without a proof, and {name.upper()} may name another")
     if path == unproved and not asked and name not in noted:
         noted.add(name)
         note(f"{name} is unproved")
@@ -55,7 +55,7 @@ def ran(words: Sequence[str], give: Optional[bytes] = None, **more: Any) -> tupl
         try:
             done = subprocess.run(words, stdout=subprocess.PIPE, stderr=subprocess.PIPE, **more)
         except OSError as fault:
-            raise Trouble(f"cannot run {words[0]}: {fault.strerror}") from None
+            raise ToolError(f"cannot run {words[0]}: {fault.strerror}") from None
     return done.returncode, done.stdout, message(done.stderr)
 
 
@@ -69,5 +69,5 @@ def written(words: Sequence[str], doing: str) -> bytes:
     """The output of a run that has to succeed."""
     status, out, text = ran(words)
     if status:
-        raise Trouble(f"{doing}: {text or f'status {status}'}")
+        raise ToolError(f"{doing}: {text or f'status {status}'}")
     return out

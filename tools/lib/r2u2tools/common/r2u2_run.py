@@ -12,7 +12,7 @@ from typing import IO, Any, Callable, Optional, Sequence, Union
 
 from r2u2tools.common import programs
 from r2u2tools.common.specs import read_spec
-from r2u2tools.common.cli import Trouble
+from r2u2tools.common.cli import ToolError
 
 FLAGS = ("--source", "--runs", "--timed")
 KEPT = 4096
@@ -21,7 +21,7 @@ GRACE = 2
 
 
 @dataclass
-class Ended:
+class RunResult:
     """How a run ended: the log that it was over, the signal that stopped it, or its code and its message where it failed."""
 
     log: Optional[str] = None
@@ -29,7 +29,7 @@ class Ended:
     failed: list[dict[str, Any]] = field(default_factory=list)
 
 
-class Words:
+class R2u2Args:
     """The words of r2u2: its options, its specification or program, and its trace."""
 
     def __init__(self, words: Sequence[str]) -> None:
@@ -62,9 +62,9 @@ class Command:
 
     def __init__(self, words: Sequence[str], quiet: bool = False) -> None:
         self.quiet = quiet
-        self.r2u2 = Words(words[1:]) if Path(words[0]).name == "r2u2" else None
+        self.r2u2 = R2u2Args(words[1:]) if Path(words[0]).name == "r2u2" else None
         if self.r2u2 and self.r2u2.demo:
-            raise Trouble("--demo prints no verdict lines: it counts by itself")
+            raise ToolError("--demo prints no verdict lines: it counts by itself")
         self.words = [programs.program("r2u2") if words[0] == "r2u2" else words[0], *words[1:]]
 
     def log(self) -> Optional[str]:
@@ -77,15 +77,15 @@ class Command:
             return []
         try:
             return [output.name for output in read_spec(self.r2u2.file).outputs]
-        except Trouble:
+        except ToolError:
             return []
 
-    def run(self, read: Callable[[IO[bytes]], object], result: Ended) -> None:
+    def run(self, read: Callable[[IO[bytes]], object], result: RunResult) -> None:
         """Runs the command, gives its output to `read`, and keeps its code and its message where it fails."""
         try:
             child = subprocess.Popen(self.words, stdout=subprocess.PIPE, stderr=subprocess.PIPE)
         except OSError as fault:
-            raise Trouble(f"cannot run {self.words[0]}: {fault.strerror}") from None
+            raise ToolError(f"cannot run {self.words[0]}: {fault.strerror}") from None
         assert child.stdout and child.stderr
         tail = bytearray()
         passing = threading.Thread(target=passed_on, args=(child.stderr, tail, self.quiet), daemon=True)

@@ -8,7 +8,7 @@ from typing import Sequence
 from r2u2tools.common import programs
 from r2u2tools.common.program_file import Signal
 from r2u2tools.common.specs import Spec, read_spec, spec_of_text
-from r2u2tools.common.cli import Trouble
+from r2u2tools.common.cli import ToolError
 
 TOLD = ("FTSPEC", "PTSPEC")
 
@@ -19,7 +19,7 @@ def as_text(path: str, doing: str) -> tuple[Spec, Spec]:
     if not given.is_program():
         return given, given
     if not given.signals:
-        raise Trouble(f"{doing}: a program of version 1 stores no signals: c2po --upgrade")
+        raise ToolError(f"{doing}: a program of version 1 stores no signals: c2po --upgrade")
     shown = programs.written([programs.program("c2po"), "--show", str(path)], doing)
     return spec_of_text(str(path), shown.decode("ascii")), given
 

@@ -11,7 +11,7 @@ from dataclasses import dataclass, field
 from pathlib import Path
 from typing import Iterator, Optional, Union
 
-from r2u2tools.common.cli import Trouble, told_os
+from r2u2tools.common.cli import ToolError, os_error
 from r2u2tools.common.program_file import Signal, read_program
 
 SECTIONS = ("STRUCT", "INPUT", "DEFINE", "FTSPEC", "PTSPEC")
@@ -72,7 +72,7 @@ def tokens(text: str) -> list[Token]:
     while place < len(text):
         part = TOKEN.match(text, place)
         if not part:
-            raise Trouble(f"line {line}: bad character")
+            raise ToolError(f"line {line}: bad character")
         if part.lastgroup != "blank":
             found.append(Token(part[0], part.start(), part.end(), line))
         line += part[0].count("\n")
@@ -88,7 +88,7 @@ def cut(found: list[Token]) -> Iterator[tuple[str, list[Token]]]:
             section = token.text
             continue
         if not section:
-            raise Trouble(f"line {token.line}: no section begins here")
+            raise ToolError(f"line {token.line}: no section begins here")
         depth += (token.text == "{") - (token.text == "}")
         if token.text == ";" and depth <= 0:
             yield section, item
@@ -96,7 +96,7 @@ def cut(found: list[Token]) -> Iterator[tuple[str, list[Token]]]:
         else:
             item.append(token)
     if item:
-        raise Trouble(f"line {item[-1].line}: an item without its ;")
+        raise ToolError(f"line {item[-1].line}: an item without its ;")
 
 
 def items(text: str) -> Iterator[Item]:
@@ -112,7 +112,7 @@ def declared(item: Item) -> list[tuple[str, str]]:
     """The names and the kind of one item of INPUT."""
     names = [token.text for token in item.body]
     if len(names) < 3 or names[-2] != ":":
-        raise Trouble("an item of INPUT isn't `names: type`")
+        raise ToolError("an item of INPUT isn't `names: type`")
     return [(name, names[-1]) for name in names[:-2] if name != ","]
 
 
@@ -120,8 +120,8 @@ def spec_of_text(path: str, text: str) -> Spec:
     found = list(items(text))
     pairs = [pair for item in found if item.section == "INPUT" for pair in declared(item)]
     signals = [Signal(name, kind, column) for column, (name, kind) in enumerate(pairs)]
-    told = [item for item in found if item.section in ("FTSPEC", "PTSPEC")]
-    outputs = [Output(item.name or str(k), item.section, item.body) for k, item in enumerate(told)]
+    requirements = [item for item in found if item.section in ("FTSPEC", "PTSPEC")]
+    outputs = [Output(item.name or str(k), item.section, item.body) for k, item in enumerate(requirements)]
     return Spec(path, signals, outputs, text, found)
 
 
@@ -137,10 +137,10 @@ def read_spec(path: Union[str, Path]) -> Spec:
         with open(path, "rb") as file:
             raw = file.read((1 << 24) + 1)
     except OSError as fault:
-        raise told_os(path, "open", fault) from None
+        raise os_error(path, "open", fault) from None
     if raw.startswith(MAGIC):
         return spec_of_bytes(str(path), raw)
     try:
         return spec_of_text(str(path), raw.decode("latin-1"))
-    except Trouble as trouble:
-        raise Trouble(f"{path}: {trouble}") from None
+    except ToolError as trouble:
+        raise ToolError(f"{path}: {trouble}") from None

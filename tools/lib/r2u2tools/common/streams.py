@@ -4,7 +4,7 @@ from __future__ import annotations
 
 from typing import Iterator, Protocol
 
-from r2u2tools.common.cli import Trouble
+from r2u2tools.common.cli import ToolError
 
 BLOCK = 1 << 16
 
@@ -45,5 +45,5 @@ def lines_in(block: bytes, first: int, longest: int) -> Iterator[tuple[int, byte
         yield number, line
 
 
-def too_long(number: int, longest: int) -> Trouble:
-    return Trouble(f"line {number}: longer than {longest} bytes")
+def too_long(number: int, longest: int) -> ToolError:
+    return ToolError(f"line {number}: longer than {longest} bytes")

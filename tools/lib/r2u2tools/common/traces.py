@@ -15,7 +15,7 @@ from operator import lt, ne
 from pathlib import Path
 from typing import Any, Iterator, Optional, Sequence, Union
 
-from r2u2tools.common.cli import Trouble, opened
+from r2u2tools.common.cli import ToolError, opened
 from r2u2tools.common.program_file import Signal
 from r2u2tools.common.streams import Readable, blocks_of, lines_in, too_long
 
@@ -111,7 +111,7 @@ def stamp_of(line: bytes, number: int) -> tuple[int, bytes]:
     """The time of a stamped row, and its rest."""
     stamp, _, rest = line.partition(b",")
     if not stamp[1:].isdigit() or len(stamp.lstrip(b"@0")) > len(str(LATEST)) or int(stamp[1:]) >= LATEST:
-        raise Trouble(f"line {number}: bad time stamp")
+        raise ToolError(f"line {number}: bad time stamp")
     return int(stamp[1:]), rest
 
 
@@ -172,10 +172,10 @@ class Filler:
     def take_row(self, number: int, line: bytes) -> None:
         time, rest = stamp_of(line, number) if line[:1] == b"@" else (self.time + 1, line)
         if time <= self.time:
-            raise Trouble(f"line {number}: times not rising")
+            raise ToolError(f"line {number}: times not rising")
         fields = rest.split(b",")
         if len(fields) < self.width:
-            raise Trouble(f"line {number}: too few fields")
+            raise ToolError(f"line {number}: too few fields")
         texts = [fields[place].decode("utf-8", "replace").strip(BLANKS) for place in self.places]
         self.add([time], line[:1] == b"@", [[text] for text in texts])
 
@@ -200,7 +200,7 @@ def places_of(names: list[str], wanted: Optional[Sequence[str]]) -> list[int]:
         return list(range(len(names)))
     for name in wanted:
         if names.count(name) != 1:
-            raise Trouble(f"line 1: name {name} {'twice' if name in names else 'missing'}")
+            raise ToolError(f"line 1: name {name} {'twice' if name in names else 'missing'}")
     return [names.index(name) for name in wanted]
 
 
@@ -235,6 +235,6 @@ def read_trace(path: Union[str, Path], signals: Optional[Sequence[Signal]] = Non
     try:
         with opened(path) as file:
             return filled(file, wanted, columns)
-    except Trouble as trouble:
+    except ToolError as trouble:
         text = str(trouble)
-        raise Trouble(text if text.startswith("cannot") else f"{path}: {text}") from None
+        raise ToolError(text if text.startswith("cannot") else f"{path}: {text}") from None

@@ -12,7 +12,7 @@ from operator import lt
 from typing import Iterable, Iterator, NamedTuple, Optional, Sequence, TypeVar
 
 from r2u2tools.common.streams import Readable, blocks_of, lines_in, lines_of
-from r2u2tools.common.cli import Trouble
+from r2u2tools.common.cli import ToolError
 
 LINE = re.compile(rb"([A-Za-z0-9_]{1,64}):(\d{1,13}),(T|F|inactive|invalid|verified)\r?")
 WORDS = ("T", "F", "inactive", "invalid", "verified")
@@ -62,17 +62,17 @@ class Reader:
         self.count = 0
         self.where = f"{what} " if what else ""
 
-    def fault(self, number: int, line: bytes, found: Optional[re.Match[bytes]]) -> Trouble:
+    def fault(self, number: int, line: bytes, found: Optional[re.Match[bytes]]) -> ToolError:
         """What is wrong with a line."""
         if not found:
-            return Trouble(f"{self.where}line {number}: not a verdict line: {shown(line)}")
-        return Trouble(f"{self.where}line {number}: time {int(found[2])} of {found[1].decode()} comes twice")
+            return ToolError(f"{self.where}line {number}: not a verdict line: {shown(line)}")
+        return ToolError(f"{self.where}line {number}: time {int(found[2])} of {found[1].decode()} comes twice")
 
     def stretches(self, file: Readable) -> Iterator[tuple[str, int, int, str]]:
         """What each line of a file says: the output's name, the first and the last time, and the word."""
-        return self.told(lines_of(file, LONGEST))
+        return self.spans(lines_of(file, LONGEST))
 
-    def told(self, lines: Iterable[tuple[int, bytes]]) -> Iterator[tuple[str, int, int, str]]:
+    def spans(self, lines: Iterable[tuple[int, bytes]]) -> Iterator[tuple[str, int, int, str]]:
         """The same of lines with their numbers."""
         match, after, names = LINE.fullmatch, self.next, self.names
         for number, line in self.placed(lines):
@@ -94,8 +94,8 @@ class Reader:
         for number, block in self.placed(blocks_of(file, LONGEST)):
             found = self.parts_alike(block)
             if found is None:
-                told = list(self.told(lines_in(block, number, LONGEST)))
-                names, _, times, words = zip(*told)
+                spans = list(self.spans(lines_in(block, number, LONGEST)))
+                names, _, times, words = zip(*spans)
                 found = parted(names, times, words)
             yield found
 
@@ -117,5 +117,5 @@ class Reader:
     def placed(self, items: Iterable[Item]) -> Iterator[Item]:
         try:
             yield from items
-        except Trouble as trouble:
-            raise Trouble(f"{self.where}{trouble}") from None
+        except ToolError as trouble:
+            raise ToolError(f"{self.where}{trouble}") from None

@@ -6,7 +6,7 @@ import subprocess
 from pathlib import Path
 from typing import Union
 
-from r2u2tools.common.cli import Trouble
+from r2u2tools.common.cli import ToolError
 from r2u2tools.common.programs import message, program
 from r2u2tools.common.traces import Runs
 from r2u2tools.common.verdict_lines import Reader
@@ -23,5 +23,5 @@ def verdict_runs(file: Union[str, Path], trace: str, timed: bool = False, source
                 found.setdefault(name, Runs()).extend(part.times, part.words)
         text = message(run.stderr.read())
     if run.returncode:
-        raise Trouble(f"{trace}: {text or f'r2u2 ended with status {run.returncode}'}")
+        raise ToolError(f"{trace}: {text or f'r2u2 ended with status {run.returncode}'}")
     return found

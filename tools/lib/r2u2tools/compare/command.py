@@ -34,47 +34,47 @@ from r2u2tools.compare.report import as_markdown, as_text
 DEEPEST = 200_000
 
 
-def asked() -> Namespace:
-    words = cli.words(__doc__)
-    words.add_argument("--timed", action="store_true", help="the rows of the logs have stamps")
-    words.add_argument("--random", metavar="N", type=cli.count, default=20, help="how many traces at random; 20")
-    words.add_argument("--rows", metavar="N", type=cli.count, default=200, help="the rows of such a trace; 200")
-    words.add_argument("--seed", metavar="N", type=cli.count, default=0, help="other traces for another number; 0")
-    words.add_argument("--keep", metavar="FOLDER", help="write the random traces into this folder")
-    words.add_argument("--markdown", action="store_true", help="print Markdown")
-    words.add_argument("old", metavar="OLD", help="a specification or a compiled program")
-    words.add_argument("new", metavar="NEW", help="another version of it")
-    words.add_argument("logs", metavar="LOG", nargs="*", help="a trace")
-    found = words.parse_args()
-    if "-" in (found.old, found.new, *found.logs):
-        words.error("each file is read more than once: - can't be one")
-    return found
+def parse_args() -> Namespace:
+    parser = cli.parser(__doc__)
+    parser.add_argument("--timed", action="store_true", help="the rows of the logs have stamps")
+    parser.add_argument("--random", metavar="N", type=cli.count, default=20, help="how many traces at random; 20")
+    parser.add_argument("--rows", metavar="N", type=cli.count, default=200, help="the rows of such a trace; 200")
+    parser.add_argument("--seed", metavar="N", type=cli.count, default=0, help="other traces for another number; 0")
+    parser.add_argument("--keep", metavar="FOLDER", help="write the random traces into this folder")
+    parser.add_argument("--markdown", action="store_true", help="print Markdown")
+    parser.add_argument("old", metavar="OLD", help="a specification or a compiled program")
+    parser.add_argument("new", metavar="NEW", help="another version of it")
+    parser.add_argument("logs", metavar="LOG", nargs="*", help="a trace")
+    args = parser.parse_args()
+    if "-" in (args.old, args.new, *args.logs):
+        parser.error("each file is read more than once: - can't be one")
+    return args
 
 
-def traces(given: Namespace, versions: list[Version], folder: Path) -> Iterator[Trace]:
+def traces(args: Namespace, versions: list[Version], folder: Path) -> Iterator[Trace]:
     """The logs, then the traces at random."""
-    yield from (Trace(log, log, given.timed) for log in given.logs)
+    yield from (Trace(log, log, args.timed) for log in args.logs)
     columns = columns_of([it.made.shown for it in versions])
-    for k in range(given.random):
-        path = Path(given.keep or folder, f"random{given.seed + k}.csv")
-        write(path, trace(columns, given.rows, given.seed + k))
-        yield Trace(str(path), str(path) if given.keep else f"the random trace {given.seed + k}")
+    for k in range(args.random):
+        path = Path(args.keep or folder, f"random{args.seed + k}.csv")
+        write(path, trace(columns, args.rows, args.seed + k))
+        yield Trace(str(path), str(path) if args.keep else f"the random trace {args.seed + k}")
 
 
-def compared(given: Namespace, folder: Path) -> tuple[Comparison, list[str]]:
-    old, new = version(given.old, folder / "old"), version(given.new, folder / "new")
-    found = compare(old, new, traces(given, [old, new], folder))
-    found.notes = order_note(old, new, given.logs)
+def compared(args: Namespace, folder: Path) -> tuple[Comparison, list[str]]:
+    old, new = version(args.old, folder / "old"), version(args.new, folder / "new")
+    found = compare(old, new, traces(args, [old, new], folder))
+    found.notes = order_note(old, new, args.logs)
     changes = cost_changes(old, new)
-    if given.markdown:
-        return found, list(as_markdown(found, changes, given.old, given.new))
+    if args.markdown:
+        return found, list(as_markdown(found, changes, args.old, args.new))
     return found, list(as_text(found, changes))
 
 
 def main() -> int:
     sys.setrecursionlimit(DEEPEST)
-    given = asked()
+    args = parse_args()
     with tempfile.TemporaryDirectory(prefix="compare-") as folder:
-        found, lines = compared(given, Path(folder))
+        found, lines = compared(args, Path(folder))
     print("\n".join(lines))
     return 0 if found.is_same() else 1

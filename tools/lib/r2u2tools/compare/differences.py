@@ -6,7 +6,7 @@ from dataclasses import dataclass, field
 from pathlib import Path
 from typing import Iterator, Optional, Sequence
 
-from r2u2tools.common.cli import Trouble
+from r2u2tools.common.cli import ToolError
 from r2u2tools.common.compiled import Compiled, compiled
 from r2u2tools.common.traces import Runs
 from r2u2tools.common.verdict_runs import verdict_runs
@@ -25,7 +25,7 @@ class Version:
     explainers: dict[str, Explainer] = field(default_factory=dict)
 
     def outputs(self) -> list[str]:
-        return [told.name for told in self.made.shown.outputs]
+        return [output.name for output in self.made.shown.outputs]
 
     def why(self, name: str, time: int, trace: Trace) -> str:
         """The first line of the explanation of a verdict."""
@@ -133,4 +133,4 @@ def first_byte(path: str) -> bytes:
         with open(path, "rb") as file:
             return file.read(1)
     except OSError as fault:
-        raise Trouble(f"cannot open {path}: {fault.strerror}") from None
+        raise ToolError(f"cannot open {path}: {fault.strerror}") from None

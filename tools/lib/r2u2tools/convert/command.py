@@ -42,7 +42,7 @@ from argparse import Namespace
 from typing import Optional
 
 from r2u2tools.common import cli
-from r2u2tools.common.cli import Trouble
+from r2u2tools.common.cli import ToolError
 from r2u2tools.common.specs import read_spec
 from r2u2tools.convert import c2po3, fret, maps, ogma
 from r2u2tools.convert.scaling import scales_of
@@ -59,22 +59,22 @@ FORMS = {
 }
 
 
-def asked() -> Namespace:
-    words = cli.words(__doc__)
-    words.add_argument("form", metavar="FORM", choices=list(FORMS), help=", ".join(FORMS))
-    words.add_argument("--mission", metavar="N", type=cli.count, help="the last row of C2PO 3's mission time M")
-    words.add_argument("--rate", metavar="HZ", help="how many rows a second has")
-    words.add_argument("--spec", metavar="FILE", help="a specification or program, for the order of outputs")
-    words.add_argument("--scale", metavar="NAME=FACTOR", action="append", help="what the decimals of a signal are multiplied by")
-    words.add_argument("--signals", metavar="FILE", help="a file of signals, for the scales of its columns")
-    words.add_argument("--write-signals", metavar="FILE", help="where entries of signals for the inputs go")
-    words.add_argument("--ids", metavar="FILE", help="where the labels with the ids of FRET go")
-    words.add_argument("-o", metavar="FILE", help="where the result goes; by default the standard output")
-    words.add_argument("file", metavar="FILE", nargs="?", default="-", help="what is converted")
-    found = words.parse_intermixed_args()
+def parse_args() -> Namespace:
+    parser = cli.parser(__doc__)
+    parser.add_argument("form", metavar="FORM", choices=list(FORMS), help=", ".join(FORMS))
+    parser.add_argument("--mission", metavar="N", type=cli.count, help="the last row of C2PO 3's mission time M")
+    parser.add_argument("--rate", metavar="HZ", help="how many rows a second has")
+    parser.add_argument("--spec", metavar="FILE", help="a specification or program, for the order of outputs")
+    parser.add_argument("--scale", metavar="NAME=FACTOR", action="append", help="what the decimals of a signal are multiplied by")
+    parser.add_argument("--signals", metavar="FILE", help="a file of signals, for the scales of its columns")
+    parser.add_argument("--write-signals", metavar="FILE", help="where entries of signals for the inputs go")
+    parser.add_argument("--ids", metavar="FILE", help="where the labels with the ids of FRET go")
+    parser.add_argument("-o", metavar="FILE", help="where the result goes; by default the standard output")
+    parser.add_argument("file", metavar="FILE", nargs="?", default="-", help="what is converted")
+    found = parser.parse_intermixed_args()
     for option in ("mission", "rate", "spec", "scale", "signals", "write_signals", "ids"):
         if getattr(found, option) is not None and option not in FORMS[found.form]:
-            words.error(f"{found.form} takes no --{option.replace('_', '-')}")
+            parser.error(f"{found.form} takes no --{option.replace('_', '-')}")
     found.scales = scales_of(found.scale or [], found.signals, found.write_signals is not None)
     found.rate = None if found.rate is None else factor("--rate", found.rate)
     return found
@@ -93,45 +93,45 @@ def text_of(path: str) -> str:
     with cli.opened(path) as file:
         raw = file.read(MOST_BYTES + 1)
     if len(raw) > MOST_BYTES:
-        raise Trouble(f"{path}: longer than {MOST_BYTES} bytes")
+        raise ToolError(f"{path}: longer than {MOST_BYTES} bytes")
     try:
         return raw.decode("utf-8-sig")
     except UnicodeDecodeError:
-        raise Trouble(f"{path}: not UTF-8") from None
+        raise ToolError(f"{path}: not UTF-8") from None
 
 
-def from_c2po(found: Namespace) -> tuple[str, list[str]]:
+def from_c2po(args: Namespace) -> tuple[str, list[str]]:
     """The specification, and what isn't taken."""
-    importer = c2po3.Importer(text_of(found.file), found.mission, found.scales)
+    importer = c2po3.Importer(text_of(args.file), args.mission, args.scales)
     text = importer.run()
-    write(found.write_signals, "\n".join(importer.entries()))
+    write(args.write_signals, "\n".join(importer.entries()))
     line = importer.renumbered()
     if line:
         cli.note(f"from line {line} on, formulas without a label go by lower numbers, since one before isn't taken")
     return text, [f"line {line}: {why}" for line, why in importer.refused()]
 
 
-def from_map(found: Namespace) -> tuple[str, list[str]]:
-    text, refused = maps.header_of(text_of(found.file))
+def from_map(args: Namespace) -> tuple[str, list[str]]:
+    text, refused = maps.header_of(text_of(args.file))
     return text, [f"line {line}: {why}" for line, why in refused]
 
 
-def from_fret(found: Namespace) -> tuple[str, list[str]]:
+def from_fret(args: Namespace) -> tuple[str, list[str]]:
     """The formulas, and the requirements that aren't taken."""
     try:
-        document = json.loads(text_of(found.file))
+        document = json.loads(text_of(args.file))
     except (ValueError, RecursionError) as fault:
         why = f"line {fault.lineno}: {fault.msg}" if isinstance(fault, json.JSONDecodeError) else "nested too deeply"
-        raise Trouble(f"{found.file}: not JSON: {why}") from None
-    kinds = fret.Kinds(scales=found.scales)
+        raise ToolError(f"{args.file}: not JSON: {why}") from None
+    kinds = fret.Kinds(scales=args.scales)
     component = ogma.component_of(document)
-    requirements = ogma.requirements_of(component, kinds) if component else fret.Importer(document, found.rate, kinds).run()
+    requirements = ogma.requirements_of(component, kinds) if component else fret.Importer(document, args.rate, kinds).run()
     text = checked(requirements, kinds)
-    write(found.write_signals, "\n".join(kinds.entries()))
+    write(args.write_signals, "\n".join(kinds.entries()))
     for it in requirements:
         if not it.why and f",{fret.WIDEST}]" in " ".join([it.formula, *it.definitions]):
-            cli.note(f"{it.label} looks back {fret.WIDEST} rows and forgets what was before{fret.lasts(found.rate)}; a latch of a file of signals doesn't")
-    write(found.ids, "".join(f"{it.label},{it.id}\n" for it in requirements if it.id))
+            cli.note(f"{it.label} looks back {fret.WIDEST} rows and forgets what was before{fret.lasts(args.rate)}; a latch of a file of signals doesn't")
+    write(args.ids, "".join(f"{it.label},{it.id}\n" for it in requirements if it.id))
     return text, [f"{it.label}: {it.why}" for it in requirements if it.why]
 
 
@@ -145,7 +145,7 @@ def checked(requirements: list[fret.Requirement], kinds: fret.Kinds) -> str:
         place = text.splitlines()[line - 1] if line else ""
         bad = next((it for it in requirements if not it.why and it.label in place), None)
         if bad is None:
-            raise Trouble(f"c2po: line {line}: {why}" if line else f"c2po: {why}")
+            raise ToolError(f"c2po: line {line}: {why}" if line else f"c2po: {why}")
         bad.why = f"c2po: {why}"
     return text
 
@@ -154,15 +154,15 @@ SOURCES = {"from-c2po": from_c2po, "from-map": from_map, "from-fret": from_fret}
 
 
 def main() -> int:
-    found = asked()
-    if found.form not in SOURCES:
-        names = [output.name for output in read_spec(found.spec).outputs] if found.spec else []
-        with cli.opened(found.file) as file, Output(found.o, [file]) as output:
-            WRITERS[found.form.removeprefix("to-")](file, output, names, found.rate)
+    args = parse_args()
+    if args.form not in SOURCES:
+        names = [output.name for output in read_spec(args.spec).outputs] if args.spec else []
+        with cli.opened(args.file) as file, Output(args.o, [file]) as output:
+            WRITERS[args.form.removeprefix("to-")](file, output, names, args.rate)
             output.keep()
         return 0
-    text, refused = SOURCES[found.form](found)
-    with Output(found.o, []) as output:
+    text, refused = SOURCES[args.form](args)
+    with Output(args.o, []) as output:
         output.file.write(text)
         output.keep()
     for line in refused:

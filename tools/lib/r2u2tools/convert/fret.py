@@ -12,7 +12,7 @@ from dataclasses import dataclass, field
 from fractions import Fraction
 from typing import Any, Optional
 
-from r2u2tools.common.cli import Trouble
+from r2u2tools.common.cli import ToolError
 from r2u2tools.convert.scaling import Scales, Unscaled, entry, scaled
 from r2u2tools.telemetry.numbers import fraction
 
@@ -290,7 +290,7 @@ class Importer:
         else:
             records, models = document, []
         if not isinstance(records, list) or not all(isinstance(it, dict) for it in records):
-            raise Trouble("not FRET's JSON: a list of requirements, an object that has one, or a component for Ogma")
+            raise ToolError("not FRET's JSON: a list of requirements, an object that has one, or a component for Ogma")
         self.records: list[dict[str, Any]] = records
         self.rate, self.kinds = rate, kinds
         self.labels: set[str] = set()

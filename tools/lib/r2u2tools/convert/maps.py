@@ -4,7 +4,7 @@ from __future__ import annotations
 
 import re
 
-from r2u2tools.common.cli import Trouble
+from r2u2tools.common.cli import ToolError
 
 LINE = re.compile(r"\s*([A-Za-z_]\w*)\s*:\s*([0-9]{1,5})\s*", re.ASCII)
 MOST = 65536
@@ -30,6 +30,6 @@ def header_of(text: str) -> tuple[str, list[tuple[int, str]]]:
         else:
             columns[int(found[2])] = found[1]
     if not columns:
-        raise Trouble("no line NAME: COLUMN")
+        raise ToolError("no line NAME: COLUMN")
     free = (f"_{k}" for k in range(2 * MOST) if f"_{k}" not in columns.values())
     return "# " + ",".join(columns[k] if k in columns else next(free) for k in range(max(columns) + 1)) + "\n", refused

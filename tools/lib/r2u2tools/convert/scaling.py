@@ -7,7 +7,7 @@ from dataclasses import dataclass, field
 from fractions import Fraction
 from typing import Optional
 
-from r2u2tools.common.cli import Trouble
+from r2u2tools.common.cli import ToolError
 from r2u2tools.signals import read
 from r2u2tools.telemetry.fields import pairs
 from r2u2tools.telemetry.numbers import factor
@@ -50,7 +50,7 @@ def scales_of(options: list[str], path: Optional[str], writes: bool) -> Scales:
                 made.factors[it.name] = it.scale
     for name, text in pairs("--scale", options):
         if made.factors.get(name, factor("--scale", text)) != factor("--scale", text):
-            raise Trouble(f"--scale {name}: {path} has the scale {made.factors[name]}")
+            raise ToolError(f"--scale {name}: {path} has the scale {made.factors[name]}")
         made.factors[name] = factor("--scale", text)
     return made
 

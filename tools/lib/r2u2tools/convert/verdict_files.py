@@ -9,7 +9,7 @@ from dataclasses import dataclass, field
 from fractions import Fraction
 from typing import IO, Iterator, Optional
 
-from r2u2tools.common.cli import Trouble
+from r2u2tools.common.cli import ToolError
 from r2u2tools.common.verdict_lines import Reader
 from r2u2tools.common.output import Output
 
@@ -97,7 +97,7 @@ class Table:
         for name, _, last, word in Reader().stretches(file):
             if name not in self.pending:
                 if self.known:
-                    raise Trouble(f"no output {name} in the specification")
+                    raise ToolError(f"no output {name} in the specification")
                 self.names.append(name)
                 self.pending[name] = Pending()
             it = self.pending[name]

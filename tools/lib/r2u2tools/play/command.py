@@ -31,17 +31,17 @@ from r2u2tools.play.runs import file_of
 from r2u2tools.play.server import Play
 
 
-def asked() -> Namespace:
-    words = cli.words(__doc__)
-    words.add_argument("--port", metavar="N", type=cli.count, default=0, help="the port; by default a free one")
-    words.add_argument("--no-browser", action="store_true", help="print the link, and open no browser")
-    words.add_argument("--timed", action="store_true", help="the rows of TRACE have stamps")
-    words.add_argument("spec", metavar="SPEC", nargs="?", help="a specification to begin with, or a link of this page")
-    words.add_argument("trace", metavar="TRACE", nargs="?", help="a trace to begin with")
-    found = words.parse_args()
-    if found.port > 65535:
-        words.error("--port is at most 65535")
-    return found
+def parse_args() -> Namespace:
+    parser = cli.parser(__doc__)
+    parser.add_argument("--port", metavar="N", type=cli.count, default=0, help="the port; by default a free one")
+    parser.add_argument("--no-browser", action="store_true", help="print the link, and open no browser")
+    parser.add_argument("--timed", action="store_true", help="the rows of TRACE have stamps")
+    parser.add_argument("spec", metavar="SPEC", nargs="?", help="a specification to begin with, or a link of this page")
+    parser.add_argument("trace", metavar="TRACE", nargs="?", help="a trace to begin with")
+    args = parser.parse_args()
+    if args.port > 65535:
+        parser.error("--port is at most 65535")
+    return args
 
 
 def fragment_of(word: Optional[str]) -> str:
@@ -50,23 +50,23 @@ def fragment_of(word: Optional[str]) -> str:
     return f"#p.{rest}" if rest and (not head or head.startswith("http://")) else ""
 
 
-def ended(_signal: int, _frame: object) -> NoReturn:
+def interrupted(_signal: int, _frame: object) -> NoReturn:
     raise KeyboardInterrupt
 
 
 def main() -> int:
-    found = asked()
+    args = parse_args()
     for name in ("c2po", "r2u2"):
         program(name)
-    fragment = fragment_of(found.spec)
-    given = found.spec and not fragment
-    first = {"spec": file_of(found.spec), "trace": file_of(found.trace), "timed": found.timed} if given else {}
-    signal.signal(signal.SIGTERM, ended)
+    fragment = fragment_of(args.spec)
+    given = args.spec and not fragment
+    first = {"spec": file_of(args.spec), "trace": file_of(args.trace), "timed": args.timed} if given else {}
+    signal.signal(signal.SIGTERM, interrupted)
     try:
-        with Play(found.port, first) as server:
+        with Play(args.port, first) as server:
             link = server.url() + fragment
             print(link, flush=True)
-            if not found.no_browser:
+            if not args.no_browser:
                 webbrowser.open(link)
             server.serve_forever()
     except KeyboardInterrupt:

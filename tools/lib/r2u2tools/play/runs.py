@@ -9,7 +9,7 @@ from dataclasses import dataclass
 from pathlib import Path
 from typing import Any, Dict, List, Optional
 
-from r2u2tools.common.cli import Trouble
+from r2u2tools.common.cli import ToolError
 from r2u2tools.common import programs
 from r2u2tools.common.programs import program
 from r2u2tools.common.specs import MAGIC, Spec, read_spec
@@ -45,7 +45,7 @@ def bounded(words: List[str], give: bytes = b"") -> Ran:
             except subprocess.TimeoutExpired:
                 child.kill()
                 child.wait()
-                raise Trouble(f"it took more than {CLOCK} seconds") from None
+                raise ToolError(f"it took more than {CLOCK} seconds") from None
         out.seek(0)
         errors.seek(0)
         lines = errors.read(1 << 16).decode("utf-8", "replace").strip().splitlines()
@@ -63,7 +63,7 @@ class Files:
         self.spec, self.trace = Path(folder, "spec.c2po"), Path(folder, "trace.csv")
         text = str(given.get("spec", ""))
         if text.startswith(MAGIC.decode()):
-            raise Trouble("a compiled program, not a specification")
+            raise ToolError("a compiled program, not a specification")
         self.spec.write_text(text, encoding="utf-8", errors="replace")
         self.trace.write_text(str(given.get("trace", "")), encoding="utf-8", errors="replace")
         self.timed = ["--timed"] if given.get("timed") else []
@@ -73,7 +73,7 @@ def checked(files: Files) -> Dict[str, Any]:
     """The faults of the specification, as r2u2-check prints them."""
     ran = tool("check", "--json", str(files.spec))
     if not ran.out:
-        raise Trouble(ran.error.removeprefix("r2u2-check: ") or "c2po gave no answer")
+        raise ToolError(ran.error.removeprefix("r2u2-check: ") or "c2po gave no answer")
     found = json.loads(ran.out)["files"][0]
     return {"accepted": found["status"] == 0, "c2po": found["c2po"], "faults": found["faults"]}
 
@@ -118,7 +118,7 @@ def taken_rows(files: Files, spec: Spec, message: str) -> Trace:
         files.trace.write_bytes(b"".join(lines[: int(refused[1]) - 1]))
     try:
         return read_trace(files.trace, spec.signals)
-    except Trouble:
+    except ToolError:
         return Trace()
 
 
@@ -149,7 +149,7 @@ def costs(given: Dict[str, Any]) -> Dict[str, Any]:
     with tempfile.TemporaryDirectory(prefix="play-") as folder:
         ran = tool("budget", "--json", "--top", "0", str(Files(folder, given).spec))
         if ran.status or not ran.out:
-            raise Trouble(ran.error.partition(": ")[2] or "r2u2-budget gave no answer")
+            raise ToolError(ran.error.partition(": ")[2] or "r2u2-budget gave no answer")
         found: Dict[str, Any] = json.loads(ran.out)
         return {"whole": found["whole"], "outputs": found["outputs"]}
 
@@ -161,7 +161,7 @@ def reason(given: Dict[str, Any]) -> Dict[str, Any]:
         asked = f"{given.get('name')}:{given.get('time')}"
         ran = tool("why", *files.timed, "--", str(files.spec), str(files.trace), asked)
         if ran.status:
-            raise Trouble(ran.error.removeprefix("r2u2-why: ").replace(folder, ""))
+            raise ToolError(ran.error.removeprefix("r2u2-why: ").replace(folder, ""))
         return {"text": ran.out.decode("utf-8", "replace")}
 
 
@@ -178,4 +178,4 @@ def file_of(path: Optional[str]) -> str:
     try:
         return Path(path).read_text(encoding="utf-8", errors="replace")
     except OSError as fault:
-        raise Trouble(f"cannot open {path}: {fault.strerror}") from None
+        raise ToolError(f"cannot open {path}: {fault.strerror}") from None

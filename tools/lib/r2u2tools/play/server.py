@@ -14,7 +14,7 @@ from http import HTTPStatus
 from http.server import BaseHTTPRequestHandler, ThreadingHTTPServer
 from typing import Any, Callable, Dict, Optional
 
-from r2u2tools.common.cli import Trouble
+from r2u2tools.common.cli import ToolError
 from r2u2tools.play.page import page
 from r2u2tools.play.runs import answered, costs, laid_out, reason
 
@@ -119,6 +119,6 @@ class Handler(BaseHTTPRequestHandler):
         except (ValueError, RecursionError):
             self.refuse(HTTPStatus.BAD_REQUEST)
             return
-        except (Trouble, OSError, subprocess.SubprocessError) as fault:
+        except (ToolError, OSError, subprocess.SubprocessError) as fault:
             found = {"trouble": str(fault)}
         self.reply(json.dumps(found), "application/json")

@@ -34,7 +34,7 @@ from pathlib import Path
 from r2u2tools.common import cli
 from r2u2tools.common.compiled import make
 from r2u2tools.common.specs import read_spec
-from r2u2tools.common.cli import Trouble
+from r2u2tools.common.cli import ToolError
 from r2u2tools.probe.findings import Finding, Probe, noticed_share, untried
 from r2u2tools.probe.report import lines
 from r2u2tools.probe.requirements import Source
@@ -48,49 +48,49 @@ def percent(word: str) -> int:
     return value
 
 
-def asked() -> Namespace:
-    words = cli.words(__doc__)
-    words.add_argument("--timed", action="store_true", help="the rows of the logs have stamps")
-    words.add_argument("--json", action="store_true", help="print one object of JSON")
-    words.add_argument("--no-margins", action="store_true", help="look for no margins, which take longest")
-    words.add_argument("--fail-untried", action="store_true", help="exit code 1 where a requirement wasn't tried")
-    words.add_argument("--least-noticed", metavar="PERCENT", type=percent, help="exit code 1 where fewer changes are noticed")
-    words.add_argument("spec", metavar="SPEC", help="a specification")
-    words.add_argument("logs", metavar="LOG", nargs="+", help="a trace")
-    found = words.parse_args()
-    if "-" in (found.spec, *found.logs):
-        words.error("each file is read more than once: - can't be one")
-    return found
+def parse_args() -> Namespace:
+    parser = cli.parser(__doc__)
+    parser.add_argument("--timed", action="store_true", help="the rows of the logs have stamps")
+    parser.add_argument("--json", action="store_true", help="print one object of JSON")
+    parser.add_argument("--no-margins", action="store_true", help="look for no margins, which take longest")
+    parser.add_argument("--fail-untried", action="store_true", help="exit code 1 where a requirement wasn't tried")
+    parser.add_argument("--least-noticed", metavar="PERCENT", type=percent, help="exit code 1 where fewer changes are noticed")
+    parser.add_argument("spec", metavar="SPEC", help="a specification")
+    parser.add_argument("logs", metavar="LOG", nargs="+", help="a trace")
+    args = parser.parse_args()
+    if "-" in (args.spec, *args.logs):
+        parser.error("each file is read more than once: - can't be one")
+    return args
 
 
-def probed(given: Namespace, folder: Path) -> list[Finding]:
-    source = Source(read_spec(given.spec))
+def probed(args: Namespace, folder: Path) -> list[Finding]:
+    source = Source(read_spec(args.spec))
     try:
-        make(given.spec, folder / "spec.obs")
-    except Trouble as trouble:
-        raise Trouble(f"{given.spec}: {trouble}") from None
-    trials = Trials(source.head(), given.logs, given.timed, folder)
-    return Probe(source, trials).findings(not given.no_margins)
+        make(args.spec, folder / "spec.obs")
+    except ToolError as trouble:
+        raise ToolError(f"{args.spec}: {trouble}") from None
+    trials = Trials(source.head(), args.logs, args.timed, folder)
+    return Probe(source, trials).findings(not args.no_margins)
 
 
-def too_little(given: Namespace, findings: list[Finding]) -> list[str]:
+def too_little(args: Namespace, findings: list[Finding]) -> list[str]:
     """What is too little, in words."""
-    found = [f"{name} wasn't tried" for name in untried(findings)] if given.fail_untried else []
+    found = [f"{name} wasn't tried" for name in untried(findings)] if args.fail_untried else []
     share = noticed_share(findings)
-    if given.least_noticed is not None and share < given.least_noticed:
-        found.append(f"{share:.1f} % of all changes are noticed, below {given.least_noticed} %")
+    if args.least_noticed is not None and share < args.least_noticed:
+        found.append(f"{share:.1f} % of all changes are noticed, below {args.least_noticed} %")
     return found
 
 
 def main() -> int:
-    given = asked()
+    args = parse_args()
     with tempfile.TemporaryDirectory(prefix="probe-") as folder:
-        findings = probed(given, Path(folder))
-    if given.json:
-        print(json.dumps({"spec": given.spec, "logs": given.logs, "requirements": [asdict(it) for it in findings]}, indent=2))
+        findings = probed(args, Path(folder))
+    if args.json:
+        print(json.dumps({"spec": args.spec, "logs": args.logs, "requirements": [asdict(it) for it in findings]}, indent=2))
     else:
-        print("\n".join(lines(given.spec, findings)))
-    faults = too_little(given, findings)
+        print("\n".join(lines(args.spec, findings)))
+    faults = too_little(args, findings)
     for fault in faults:
         cli.note(fault)
     return 1 if faults else 0

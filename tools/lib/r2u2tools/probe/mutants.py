@@ -101,10 +101,10 @@ def is_negated(body: list[Token], k: int) -> bool:
 def around(body: list[Token], k: int, text: str) -> tuple[str, str]:
     """A number with its interval, or with its whole comparison, or else with its sign, as it is and as it becomes."""
     if (found := interval_places(body).get(k)) is not None:
-        told = body[found[0] - 2 : found[1] + 2]
+        compared = body[found[0] - 2 : found[1] + 2]
     else:
-        told = comparison_of(body, body[k]) or body[k - is_negated(body, k) : k + 1]
-    return changed(told, body[k], body[k].text), changed(told, body[k], text)
+        compared = comparison_of(body, body[k]) or body[k - is_negated(body, k) : k + 1]
+    return changed(compared, body[k], body[k].text), changed(compared, body[k], text)
 
 
 def comparison_of(body: list[Token], token: Token) -> list[Token]:
@@ -120,9 +120,9 @@ def comparison_of(body: list[Token], token: Token) -> list[Token]:
     return found
 
 
-def changed(told: list[Token], token: Token, text: str) -> str:
+def changed(compared: list[Token], token: Token, text: str) -> str:
     """Some tokens as they are written, with a text in the place of one."""
-    return plain("", [replace(it, text=text) if it is token else it for it in told])
+    return plain("", [replace(it, text=text) if it is token else it for it in compared])
 
 
 def operators(source: Source, number: int) -> Iterator[Mutant]:
@@ -134,9 +134,9 @@ def operators(source: Source, number: int) -> Iterator[Mutant]:
             yield Mutant("operator", Edit(number, k, k + 1, ""), source.place(body[k]), "!", "nothing")
         if it.op == "-" and len(it.parts) == 2:
             yield Mutant("operator", Edit(number, k, k + 1, "+"), source.place(body[k]), "-", "+")
-        told = body[it.first : it.last] if it.op in COMPARISONS else body[k : k + 1]
+        compared = body[it.first : it.last] if it.op in COMPARISONS else body[k : k + 1]
         for other in SWAPPED.get(it.op, ()):
-            old, new = changed(told, body[k], it.op), changed(told, body[k], other)
+            old, new = changed(compared, body[k], it.op), changed(compared, body[k], other)
             yield Mutant("operator", Edit(number, k, k + 1, other), source.place(body[k]), old, new)
 
 

@@ -12,7 +12,7 @@ from typing import Optional
 from r2u2tools.common.compiled import is_formula
 from r2u2tools.common.expressions import Expression, plain, tree_of
 from r2u2tools.common.specs import Item, Spec, Token, tokens
-from r2u2tools.common.cli import Trouble
+from r2u2tools.common.cli import ToolError
 
 
 @dataclass(frozen=True)
@@ -51,7 +51,7 @@ class Source:
 
     def __init__(self, given: Spec) -> None:
         if given.is_program():
-            raise Trouble(f"{given.path}: a compiled program has no text to change: give the specification")
+            raise ToolError(f"{given.path}: a compiled program has no text to change: give the specification")
         self.given, self.items, self.text = given, given.items, given.text or ""
         self.by_name = {item.name: k for k, item in enumerate(self.items) if item.section == "DEFINE" and item.name}
         used = {token.text for item in self.items for token in item.body} | {item.name for item in self.items}

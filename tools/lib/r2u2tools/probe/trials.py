@@ -8,7 +8,7 @@ from dataclasses import dataclass, field
 from pathlib import Path
 from typing import Iterator, Optional, Sequence
 
-from r2u2tools.common.cli import Trouble, opened
+from r2u2tools.common.cli import ToolError, opened
 from r2u2tools.common.compiled import text_of
 from r2u2tools.common.programs import message, program, ran
 from r2u2tools.common.streams import lines_of
@@ -107,12 +107,12 @@ class Trials:
         status, _, text = ran([program("c2po"), "-o", str(out), str(spec)])
         if not status:
             return None
-        told, first = REFUSED.fullmatch(text), self.head.count("\n") + 2
-        if not told:
+        match, first = REFUSED.fullmatch(text), self.head.count("\n") + 2
+        if not match:
             return len(trials) - 1, text.removeprefix("c2po: ")
-        if not 0 <= int(told[1]) - first < len(trials):
-            raise Trouble(text.removeprefix("c2po: "))
-        return int(told[1]) - first, told[2]
+        if not 0 <= int(match[1]) - first < len(trials):
+            raise ToolError(text.removeprefix("c2po: "))
+        return int(match[1]) - first, match[2]
 
     def false_outputs(self, log: str, count: int) -> set[int]:
         """The outputs that are false somewhere in a log, by number."""
@@ -129,7 +129,7 @@ class Trials:
                     return seen
             text = message(run.stderr.read())
         if run.returncode:
-            raise Trouble(f"{log}: {text or f'r2u2 ended with status {run.returncode}'}")
+            raise ToolError(f"{log}: {text or f'r2u2 ended with status {run.returncode}'}")
         return seen
 
 

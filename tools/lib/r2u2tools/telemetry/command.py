@@ -53,7 +53,7 @@ from argparse import Namespace
 from typing import Optional
 
 from r2u2tools.common import cli
-from r2u2tools.common.cli import Trouble
+from r2u2tools.common.cli import ToolError
 from r2u2tools.common.program_file import Signal
 from r2u2tools.common.specs import read_spec
 from r2u2tools.signals import Signals, read
@@ -91,86 +91,86 @@ SINGLE = {
 }
 
 
-def parser() -> cli.Words:
+def make_parser() -> cli.Parser:
     """The options."""
-    words = cli.words(__doc__)
+    parser = cli.parser(__doc__)
     for option, (form, text) in SINGLE.items():
-        words.add_argument(option, metavar=form, help=text)
+        parser.add_argument(option, metavar=form, help=text)
     for option, (form, text) in REPEATED.items():
-        words.add_argument(option, metavar=form, action="append", default=[], help=text)
-    words.add_argument("--skip", metavar="N", type=cli.count, default=0, help="lines before that with the names")
-    words.add_argument("--format", metavar="FORM", choices=FORMATS, help="csv, json or vcd, by default by the file's name")
-    words.add_argument("--time-unit", metavar="UNIT", choices=list(UNITS), default="s", help="of times: s, ms, us or ns")
-    words.add_argument("--decimal-comma", action="store_true", help="numbers have a comma before their decimals")
-    words.add_argument("--stamps", action="store_true", help="write a stamp before each row, and no rows between")
-    words.add_argument("--sort", action="store_true", help="take the lines of each file in the order of their times")
-    words.add_argument("--dedupe", action="store_true", help="leave out a line that repeats the one before")
-    words.add_argument("--hold", action="store_true", help="hold the last value in empty fields and between rows")
-    words.add_argument("--delimiter", metavar="CHARACTER", help="between fields, as ';' or 'tab'; by default a comma")
-    words.add_argument("telemetry", metavar="TELEMETRY", nargs="*", help="the files; by default the standard input")
-    return words
+        parser.add_argument(option, metavar=form, action="append", default=[], help=text)
+    parser.add_argument("--skip", metavar="N", type=cli.count, default=0, help="lines before that with the names")
+    parser.add_argument("--format", metavar="FORM", choices=FORMATS, help="csv, json or vcd, by default by the file's name")
+    parser.add_argument("--time-unit", metavar="UNIT", choices=list(UNITS), default="s", help="of times: s, ms, us or ns")
+    parser.add_argument("--decimal-comma", action="store_true", help="numbers have a comma before their decimals")
+    parser.add_argument("--stamps", action="store_true", help="write a stamp before each row, and no rows between")
+    parser.add_argument("--sort", action="store_true", help="take the lines of each file in the order of their times")
+    parser.add_argument("--dedupe", action="store_true", help="leave out a line that repeats the one before")
+    parser.add_argument("--hold", action="store_true", help="hold the last value in empty fields and between rows")
+    parser.add_argument("--delimiter", metavar="CHARACTER", help="between fields, as ';' or 'tab'; by default a comma")
+    parser.add_argument("telemetry", metavar="TELEMETRY", nargs="*", help="the files; by default the standard input")
+    return parser
 
 
-def asked() -> Namespace:
-    words = parser()
-    found = words.parse_args()
-    found.telemetry = found.telemetry or ["-"]
-    default = ";" if found.decimal_comma else ","
-    found.delimiter = {"tab": "\t", None: default}.get(found.delimiter, found.delimiter)
-    if found.time is None and found.rate and all(path.endswith(".vcd") for path in found.telemetry):
-        found.time = "time"
-    fault = misused(found)
+def parse_args() -> Namespace:
+    parser = make_parser()
+    args = parser.parse_args()
+    args.telemetry = args.telemetry or ["-"]
+    default = ";" if args.decimal_comma else ","
+    args.delimiter = {"tab": "\t", None: default}.get(args.delimiter, args.delimiter)
+    if args.time is None and args.rate and all(path.endswith(".vcd") for path in args.telemetry):
+        args.time = "time"
+    fault = misused(args)
     if fault:
-        words.error(fault)
-    return found
+        parser.error(fault)
+    return args
 
 
-def misused(found: Namespace) -> Optional[str]:
+def misused(args: Namespace) -> Optional[str]:
     """What doesn't fit together in the arguments, or None."""
-    if bool(found.time) != bool(found.rate):
+    if bool(args.time) != bool(args.rate):
         return "--time and --rate need each other"
-    if (found.stamps or found.start or found.snap or found.within or found.sort or found.dedupe) and not found.time:
+    if (args.stamps or args.start or args.snap or args.within or args.sort or args.dedupe) and not args.time:
         return "--stamps, --start, --snap, --within, --sort and --dedupe need --time and --rate"
-    replaced = [option for option in ("scale", "map", "round", "hex", "missing", "within") if getattr(found, option)]
-    if found.signals and replaced:
+    replaced = [option for option in ("scale", "map", "round", "hex", "missing", "within") if getattr(args, option)]
+    if args.signals and replaced:
         return f"--signals says what --{replaced[0]} says"
-    if found.spec and found.columns:
+    if args.spec and args.columns:
         return "--spec names the columns already"
-    if found.long and not (found.time and (found.spec or found.columns or found.signals) and found.long.count(",") == 1):
+    if args.long and not (args.time and (args.spec or args.columns or args.signals) and args.long.count(",") == 1):
         return "--long NAME,VALUE needs --time, and --spec, --columns or --signals"
-    if len(found.telemetry) > 1 and not found.time:
+    if len(args.telemetry) > 1 and not args.time:
         return "several files are merged by --time and --rate"
-    if found.telemetry.count("-") > 1:
+    if args.telemetry.count("-") > 1:
         return "one of the files can be the standard input"
-    if len(found.delimiter) != 1 or found.delimiter in '"\r\n':
+    if len(args.delimiter) != 1 or args.delimiter in '"\r\n':
         return "--delimiter is one character, or tab"
     return None
 
 
 def main() -> int:
-    found = asked()
-    inputs = read_spec(found.spec).signals if found.spec else None
-    signals = chosen_signals(read(found.signals), inputs, found.columns) if found.signals else None
+    args = parse_args()
+    inputs = read_spec(args.spec).signals if args.spec else None
+    signals = chosen_signals(read(args.signals), inputs, args.columns) if args.signals else None
     backward = next((it.name for it in signals.columns if it.looks_back), "") if signals else ""
-    if found.stamps and backward:
-        raise Trouble(f"{found.signals}: {backward} looks back by rows, which --stamps leaves out")
+    if args.stamps and backward:
+        raise ToolError(f"{args.signals}: {backward} looks back by rows, which --stamps leaves out")
     try:
-        convert(found, inputs, signals)
+        convert(args, inputs, signals)
     except Refused as fault:
-        if found.telemetry == ["-"] or len(found.telemetry) > 1:
+        if args.telemetry == ["-"] or len(args.telemetry) > 1:
             raise
-        raise Refused(f"{found.telemetry[0]}: {fault}", fault.status) from None
+        raise Refused(f"{args.telemetry[0]}: {fault}", fault.status) from None
     return 0
 
 
-def convert(found: Namespace, inputs: Optional[list[Signal]], signals: Optional[Signals]) -> None:
+def convert(args: Namespace, inputs: Optional[list[Signal]], signals: Optional[Signals]) -> None:
     """The way from the telemetry to the trace."""
-    clock = Clock(UNITS[found.time_unit], found.decimal_comma)
-    opening = Sources(found, signals.fields if signals else inputs, clock)
-    with opening as source, Output(found.o, opening.files) as output:
-        columns = SignalColumns(source, found, signals) if signals else Columns(source, found, inputs)
-        kind: type[Rows] = Timed if found.time else Plain
-        rows = kind(columns, found, clock, output)
+    clock = Clock(UNITS[args.time_unit], args.decimal_comma)
+    opening = Sources(args, signals.fields if signals else inputs, clock)
+    with opening as source, Output(args.o, opening.files) as output:
+        columns = SignalColumns(source, args, signals) if signals else Columns(source, args, inputs)
+        kind: type[Rows] = Timed if args.time else Plain
+        rows = kind(columns, args, clock, output)
         output.line(columns.header())
         for number, fields in source:
             rows.take(number, fields)

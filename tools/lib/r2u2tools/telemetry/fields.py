@@ -6,7 +6,7 @@ import re
 from fractions import Fraction
 from typing import Any, Callable, Iterator, Optional
 
-from r2u2tools.common.cli import Trouble
+from r2u2tools.common.cli import ToolError
 from r2u2tools.telemetry.numbers import exact, factor, rounded
 from r2u2tools.telemetry.records import Refused, shown
 
@@ -36,7 +36,7 @@ def pairs(option: str, given: list[str], sign: str = "=") -> Iterator[tuple[str,
     for text in given:
         left, found, right = text.partition(sign)
         if not found or not left or not right:
-            raise Trouble(f"{option} {text}: not of the form NAME{sign}...")
+            raise ToolError(f"{option} {text}: not of the form NAME{sign}...")
         yield left.strip(), right.strip()
 
 
@@ -48,9 +48,9 @@ def maps(given: list[str]) -> dict[str, dict[str, str]]:
         for entry in text.split(","):
             word, sign, number = (part.strip() for part in entry.rpartition(":"))
             if not sign or not word or not WHOLE.fullmatch(number) or not LEAST <= int(number) <= GREATEST:
-                raise Trouble(f"--map {name}: {shown(entry)} isn't WORD:NUMBER")
+                raise ToolError(f"--map {name}: {shown(entry)} isn't WORD:NUMBER")
             if kept.setdefault(word, str(int(number))) != str(int(number)):
-                raise Trouble(f"--map {name}: {word} has two numbers")
+                raise ToolError(f"--map {name}: {word} has two numbers")
     return found
 
 
@@ -142,7 +142,7 @@ class Columns:
         other = dict(pairs("--rename", found.rename))
         for name in other:
             if name not in getattr(source, "own_names", source.names):
-                raise Trouble(f"--rename: no column {shown(name)} (the file has {', '.join(source.names[:20])})")
+                raise ToolError(f"--rename: no column {shown(name)} (the file has {', '.join(source.names[:20])})")
         self.source = source
         self.line, self.width, self.hold, self.sparse = source.line, len(source.names), found.hold, source.sparse
         self.names = [other.get(name, name) for name in source.names]
@@ -179,7 +179,7 @@ class Columns:
 
         def column(option: str, name: str) -> Column:
             if name not in by_name:
-                raise Trouble(f"{option}: the trace has no column {name}")
+                raise ToolError(f"{option}: the trace has no column {name}")
             return by_name[name]
 
         self.time_scale = Fraction(1)
@@ -191,7 +191,7 @@ class Columns:
         for name, kept in maps(found.map).items():
             column("--map", name).words = kept
             if by_name[name].scale is not None:
-                raise Trouble(f"column {name} has both --scale and --map")
+                raise ToolError(f"column {name} has both --scale and --map")
         for name in found.round:
             column("--round", name).rounds = True
         for name in found.hex:
@@ -208,10 +208,10 @@ class Columns:
         own = {name: rule for name, sign, rule in (text.rpartition("=") for text in given) if sign}
         every = [text for text in given if "=" not in text]
         if len(every) > 1:
-            raise Trouble("--missing: two rules for all columns")
+            raise ToolError("--missing: two rules for all columns")
         for rule in [*own.values(), *every]:
             if rule not in RULES and not WHOLE.fullmatch(rule):
-                raise Trouble(f"--missing: {shown(rule)} isn't {', '.join(RULES)} or a number")
+                raise ToolError(f"--missing: {shown(rule)} isn't {', '.join(RULES)} or a number")
         for it in self.chosen:
             it.missing = every[0] if every else it.missing
         for name, rule in own.items():
@@ -219,9 +219,9 @@ class Columns:
 
     def combined(self, column: Column, text: str) -> None:
         if text not in COMBINED:
-            raise Trouble(f"--within {column.name}: {shown(text)} isn't {', '.join(COMBINED)}")
+            raise ToolError(f"--within {column.name}: {shown(text)} isn't {', '.join(COMBINED)}")
         if text in ("any", "all") and column.kind == "int":
-            raise Trouble(f"--within {column.name}: {text} is for bool, the input is int")
+            raise ToolError(f"--within {column.name}: {text} is for bool, the input is int")
         column.combine = COMBINED[text]
 
     def header(self) -> str:

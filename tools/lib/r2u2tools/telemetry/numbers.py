@@ -6,7 +6,7 @@ import re
 from fractions import Fraction
 from typing import Optional
 
-from r2u2tools.common.cli import Trouble
+from r2u2tools.common.cli import ToolError
 from r2u2tools.telemetry.records import shown
 
 NUMBER = re.compile(r"([+-]?)(\d*)(?:\.(\d*))?(?:[eE]([+-]?\d{1,3}))?", re.ASCII)
@@ -37,7 +37,7 @@ def fraction(text: str) -> Optional[Fraction]:
 def factor(option: str, text: str) -> Fraction:
     value = fraction(text)
     if value is None or value <= 0:
-        raise Trouble(f"{option}: {shown(text)} isn't a number above 0")
+        raise ToolError(f"{option}: {shown(text)} isn't a number above 0")
     return value
 
 

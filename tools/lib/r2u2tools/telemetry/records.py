@@ -5,7 +5,7 @@ from __future__ import annotations
 import csv
 from typing import BinaryIO, Iterator, Optional
 
-from r2u2tools.common.cli import TROUBLE, Trouble
+from r2u2tools.common.cli import TROUBLE, ToolError
 
 REFUSED = 1
 LONGEST = 1 << 20
@@ -13,7 +13,7 @@ BYTES_16 = (b"\xff\xfe", b"\xfe\xff")
 BYTE_ORDER = b"\xef\xbb\xbf"
 
 
-class Refused(Trouble):
+class Refused(ToolError):
     """What the file has can't be converted."""
 
     def __init__(self, text: str, status: int = REFUSED) -> None:

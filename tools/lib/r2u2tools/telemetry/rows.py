@@ -6,7 +6,7 @@ from fractions import Fraction
 from math import ceil
 from typing import Any, Iterator, Optional
 
-from r2u2tools.common.cli import Trouble
+from r2u2tools.common.cli import ToolError
 from r2u2tools.telemetry.fields import Columns, counted
 from r2u2tools.telemetry.numbers import factor, fraction
 from r2u2tools.common.output import Output
@@ -26,7 +26,7 @@ def snap_of(text: str) -> Fraction:
     """Returns the seconds of --snap."""
     value = fraction(text)
     if value is None or value < 0:
-        raise Trouble(f"--snap: {shown(text)} isn't a number from 0 on")
+        raise ToolError(f"--snap: {shown(text)} isn't a number from 0 on")
     return value
 
 
@@ -90,7 +90,7 @@ class Timed(Rows):
         if found.start is not None:
             self.start = clock.fraction(found.start)
             if self.start is None:
-                raise Trouble(f"--start: {shown(found.start)} isn't a number or a date")
+                raise ToolError(f"--start: {shown(found.start)} isn't a number or a date")
         # The row that is being filled, whether it is still to be written, and what holds after it.
         self.row, self.open = -1, False
         self.held: Any = None

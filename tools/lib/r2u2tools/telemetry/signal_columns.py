@@ -4,7 +4,7 @@ from __future__ import annotations
 
 from typing import Any, Iterator, Mapping, Optional
 
-from r2u2tools.common.cli import Trouble
+from r2u2tools.common.cli import ToolError
 from r2u2tools.signals import Machine, Signals, check
 from r2u2tools.signals.model import Field
 from r2u2tools.signals.raw import Raw, raw_of
@@ -60,9 +60,9 @@ def chosen_signals(signals: Signals, inputs: Optional[list[Any]], columns: Optio
         faults = [it for it in check([(it.name, it.kind, 0) for it in inputs], signals) if not it.text.startswith("no column needs")]
         if faults:
             where = "" if faults[0].in_spec else f"line {faults[0].line}: "
-            raise Trouble(f"{signals.path}: {where}{faults[0].text}")
+            raise ToolError(f"{signals.path}: {where}{faults[0].text}")
         return signals.chosen([it.name for it in inputs])
     try:
         return signals.chosen([it.strip() for it in columns.split(",")]) if columns else signals
     except KeyError as fault:
-        raise Trouble(f"{signals.path}: no signal makes the column {fault.args[0]}") from None
+        raise ToolError(f"{signals.path}: no signal makes the column {fault.args[0]}") from None

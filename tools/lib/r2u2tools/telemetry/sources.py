@@ -7,7 +7,7 @@ from contextlib import ExitStack
 from fractions import Fraction
 from typing import Any, BinaryIO, Iterator, Optional
 
-from r2u2tools.common.cli import Trouble, opened
+from r2u2tools.common.cli import ToolError, opened
 from r2u2tools.telemetry.fields import counted, pairs
 from r2u2tools.telemetry.json_lines import JsonLines
 from r2u2tools.telemetry.records import Records, Refused, shown
@@ -174,7 +174,7 @@ class Sources:
         found = self.found
         if form == "vcd":
             if not found.time:
-                raise Trouble("a dump has times: --rate is needed")
+                raise ToolError("a dump has times: --rate is needed")
             return Dump(file, found.time)
         if form == "json":
             return JsonLines(file, [] if found.long or len(found.telemetry) > 1 else self.wanted, found.skip, found.comment)

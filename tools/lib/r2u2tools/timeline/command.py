@@ -33,7 +33,7 @@ from typing import Optional
 from r2u2tools.common import cli
 from r2u2tools.common.output import write
 from r2u2tools.common.specs import read_spec
-from r2u2tools.common.cli import Trouble
+from r2u2tools.common.cli import ToolError
 from r2u2tools.timeline.html_page import html
 from r2u2tools.timeline.model import Model, cut_to, keep_changing, take_lines, take_trace
 from r2u2tools.timeline.run import run, title_of, why_command
@@ -50,90 +50,90 @@ SINGLE = {
 }
 
 
-def parser() -> cli.Words:
+def make_parser() -> cli.Parser:
     """The options."""
-    words = cli.words(__doc__)
+    parser = cli.parser(__doc__)
     for option, (form, text) in SINGLE.items():
-        words.add_argument(option, metavar=form, help=text)
-    words.add_argument("--html", action="store_true", help="make a page in place of a picture")
-    words.add_argument("--all-columns", action="store_true", help="show all columns of the trace, not the signals alone")
-    words.add_argument(
+        parser.add_argument(option, metavar=form, help=text)
+    parser.add_argument("--html", action="store_true", help="make a page in place of a picture")
+    parser.add_argument("--all-columns", action="store_true", help="show all columns of the trace, not the signals alone")
+    parser.add_argument(
         "--changing", action="store_true",
         help="leave out columns and outputs that keep one value over the rows shown",
     )
-    words.add_argument("--from", metavar="ROW", type=cli.count, dest="first", help="the first row that is shown")
-    words.add_argument("--to", metavar="ROW", type=cli.count, dest="last", help="the last row that is shown")
-    words.add_argument(
+    parser.add_argument("--from", metavar="ROW", type=cli.count, dest="first", help="the first row that is shown")
+    parser.add_argument("--to", metavar="ROW", type=cli.count, dest="last", help="the last row that is shown")
+    parser.add_argument(
         "--unit", metavar="NAME=TEXT", action="append", default=[],
         help="the unit of a column, as alt=m, for the page of --html",
     )
-    words.add_argument("--rate", metavar="HZ", type=float, help="rows of a second: the page shows seconds too")
-    words.add_argument("lines", metavar="LINES", nargs="?", help="verdict lines; by default the standard input")
-    return words
+    parser.add_argument("--rate", metavar="HZ", type=float, help="rows of a second: the page shows seconds too")
+    parser.add_argument("lines", metavar="LINES", nargs="?", help="verdict lines; by default the standard input")
+    return parser
 
 
-def asked() -> Namespace:
+def parse_args() -> Namespace:
     """The arguments; those after `--` are a command."""
-    words, given = parser(), sys.argv[1:]
+    parser, given = make_parser(), sys.argv[1:]
     place = given.index("--") if "--" in given else len(given)
-    found, found.command = words.parse_args(given[:place]), given[place + 1 :]
-    fault = misused(found, place < len(given))
+    args, args.command = parser.parse_args(given[:place]), given[place + 1 :]
+    fault = misused(args, place < len(given))
     if fault:
-        words.error(fault)
-    return found
+        parser.error(fault)
+    return args
 
 
-def misused(found: Namespace, dashes: bool) -> Optional[str]:
+def misused(args: Namespace, dashes: bool) -> Optional[str]:
     """What doesn't fit together in the arguments, or None."""
-    if dashes and not found.command:
+    if dashes and not args.command:
         return "no command after --"
-    if found.command and (found.lines or found.trace or found.spec or found.ticks):
+    if args.command and (args.lines or args.trace or args.spec or args.ticks):
         return "a command after -- goes without LINES, --trace, --spec and --ticks"
-    if any("=" not in text for text in found.unit):
+    if any("=" not in text for text in args.unit):
         return "--unit isn't of the form NAME=TEXT"
-    if found.rate is not None and not 0 < found.rate < 1e12:
+    if args.rate is not None and not 0 < args.rate < 1e12:
         return "--rate isn't a number above 0"
-    if found.first is not None and found.last is not None and found.last < found.first:
+    if args.first is not None and args.last is not None and args.last < args.first:
         return "--to is before --from"
     return None
 
 
-def read(found: Namespace, model: Model) -> Optional[str]:
+def read(args: Namespace, model: Model) -> Optional[str]:
     """Takes what is to be shown; what r2u2 said where it failed, or None."""
-    if found.command:
-        return run(found.command, model, found.all_columns)
-    spec = read_spec(found.spec) if found.spec else None
+    if args.command:
+        return run(args.command, model, args.all_columns)
+    spec = read_spec(args.spec) if args.spec else None
     if spec:
         model.take_spec(spec)
         model.title = title_of(spec)
-        if found.trace not in (None, "-"):
-            model.why = why_command(found.spec, found.trace, False)
-    if found.trace:
-        take_trace(model, found.trace, spec.signals if spec else None, found.all_columns)
+        if args.trace not in (None, "-"):
+            model.why = why_command(args.spec, args.trace, False)
+    if args.trace:
+        take_trace(model, args.trace, spec.signals if spec else None, args.all_columns)
         if model.why and model.stamps is not None:
-            model.why = why_command(found.spec, found.trace, True)
-    path = found.lines or "-"
+            model.why = why_command(args.spec, args.trace, True)
+    path = args.lines or "-"
     with cli.opened(path) as file:
-        take_lines(model, file, "" if path == "-" else path, found.ticks)
+        take_lines(model, file, "" if path == "-" else path, args.ticks)
     return None
 
 
 def main() -> int:
-    found = asked()
+    args = parse_args()
     model = Model()
-    model.units, model.rate = dict(text.split("=", 1) for text in found.unit), found.rate
-    failed = read(found, model)
-    cut_to(model, found.first, found.last)
+    model.units, model.rate = dict(text.split("=", 1) for text in args.unit), args.rate
+    failed = read(args, model)
+    cut_to(model, args.first, args.last)
     if model.times() < 1:
-        raise Trouble(failed or "no row and no verdict to show")
-    if found.changing:
+        raise ToolError(failed or "no row and no verdict to show")
+    if args.changing:
         keep_changing(model)
-    model.title = found.title if found.title is not None else model.title
-    text = (html if found.html else svg)(model)
-    if found.o and found.o != "-":
-        write(found.o, text)
+    model.title = args.title if args.title is not None else model.title
+    text = (html if args.html else svg)(model)
+    if args.o and args.o != "-":
+        write(args.o, text)
     else:
         sys.stdout.write(text)
     if failed:
-        raise Trouble(failed)
+        raise ToolError(failed)
     return 0

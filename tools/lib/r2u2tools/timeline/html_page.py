@@ -13,7 +13,7 @@ from pathlib import Path
 from string import Template
 from typing import Any, Iterable, Iterator, Optional
 
-from r2u2tools.common.cli import Trouble, plain
+from r2u2tools.common.cli import ToolError, plain
 from r2u2tools.common.palette import css
 from r2u2tools.common.progress import Progress
 from r2u2tools.timeline.model import Column, Lane, Model
@@ -84,10 +84,10 @@ def packed(runs: Any, first: int, last: int) -> dict[str, Any]:
 
 def packed_told(lane: Lane, first: int, last: int) -> str:
     """The deciding rows: how often a step is repeated, how many times it decides, and how far after the last of them."""
-    lasts, rows = lane.told.within(first, last)
+    lasts, rows = lane.printed.within(first, last)
     lengths, delays = array("q", distances(lasts, first - 1)), array("q", map(sub, rows, lasts))
     if min(delays, default=0) < 0:
-        raise Trouble(f"{lane.name} has a line before the row of its time: the output of --ticks hasn't a line with every row")
+        raise ToolError(f"{lane.name} has a line before the row of its time: the output of --ticks hasn't a line with every row")
     changes = map(or_, map(ne, lengths, islice(lengths, 1, None)), map(ne, delays, islice(delays, 1, None)))
     ends = [*changes, True]
     counts = distances(array("Q", compress(range(len(lasts)), ends)), -1)
@@ -114,7 +114,7 @@ def lane_data(lane: Lane, model: Model) -> dict[str, Any]:
     """An output for the page; its runs aren't needed any more."""
     kept = {"name": lane.name, **packed(lane.words, model.first, model.last)}
     kept["told"] = packed_told(lane, model.first, model.last)
-    lane.words = lane.told = None
+    lane.words = lane.printed = None
     return kept | ({"text": lane.text} if lane.text else {})
 
 

@@ -9,7 +9,7 @@ from itertools import chain, repeat, starmap
 from operator import sub
 from typing import Any, Optional, Sequence
 
-from r2u2tools.common.cli import Trouble, opened
+from r2u2tools.common.cli import ToolError, opened
 from r2u2tools.common.progress import Progress
 from r2u2tools.common.traces import Runs, filled
 from r2u2tools.common.verdict_lines import Part, Reader
@@ -41,12 +41,12 @@ class Lane:
 
     name: str
     words: Any = field(default_factory=Runs)
-    told: Any = field(default_factory=lambda: Runs(whole=True))
+    printed: Any = field(default_factory=lambda: Runs(whole=True))
     text: str = ""
 
     def delay(self, first: int, last: int) -> Optional[tuple[int, int]]:
         """Returns the least and the greatest number of rows from a time in a stretch to the row that decided it."""
-        found = [(row - end, row - begin) for begin, end, row in self.told.between(first, last)]
+        found = [(row - end, row - begin) for begin, end, row in self.printed.between(first, last)]
         return (min(low for low, _ in found), max(high for _, high in found)) if found else None
 
 
@@ -111,9 +111,9 @@ def watched_trace(path: str, signals: Optional[list[Any]]) -> Any:
     try:
         with opened(path) as file:
             return filled(Watched(file, "reading the trace"), wanted, columns)
-    except Trouble as trouble:
+    except ToolError as trouble:
         text = str(trouble)
-        raise Trouble(text if text.startswith("cannot") else f"{path}: {text}") from None
+        raise ToolError(text if text.startswith("cannot") else f"{path}: {text}") from None
 
 
 def take_trace(model: Model, path: str, signals: Optional[list[Any]], every: bool) -> None:
@@ -144,13 +144,13 @@ def decided(model: Model, parts: dict[str, Part], ticks: Part, waiting: list[tup
     """Gives lanes the rows that decided their words, each that of the next tick. What has no tick yet waits."""
     rows = ticks.times if model.stamps is None else [decided_by(model.stamps, time) for time in ticks.times]
     for lane, times in waiting:
-        lane.told.extend(times, [rows[0]] * len(times))
+        lane.printed.extend(times, [rows[0]] * len(times))
     waiting.clear()
     gaps = map(sub, ticks.places, chain([-1], ticks.places))
     row_of = list(chain.from_iterable(starmap(repeat, zip(rows, gaps))))
     for name, part in parts.items():
         lane, count = model.lane(name), bisect_left(part.places, len(row_of))
-        lane.told.extend(part.times[:count], list(map(row_of.__getitem__, part.places[:count])))
+        lane.printed.extend(part.times[:count], list(map(row_of.__getitem__, part.places[:count])))
         if count < len(part.times):
             waiting.append((lane, part.times[count:]))
 

@@ -271,7 +271,7 @@ def draw_bar(sheet: Sheet, begin: int, end: int, most: Word, least: Word) -> Non
 
 def draw_marks(sheet: Sheet, lane: Lane) -> None:
     """A dot at each row that decided a word, and a line to it from the time of the word."""
-    if not len(lane.told):
+    if not len(lane.printed):
         return
     model = sheet.model
     if sheet.cell < NARROWEST:
@@ -283,7 +283,7 @@ def draw_marks(sheet: Sheet, lane: Lane) -> None:
         return
     high, low = sheet.top + 1, sheet.top + MARK - 3
     path, rows = list[str](), set[int]()
-    for begin, end, row in lane.told.between(model.first, model.last):
+    for begin, end, row in lane.printed.between(model.first, model.last):
         for time in range(begin, end + 1):
             sheet.leaves = sheet.leaves or row > model.last
             foot = sheet.x(min(row, model.last + 0.5) + 0.5)
@@ -319,14 +319,14 @@ def draw_stamps(sheet: Sheet) -> None:
 
 def draw_legend(sheet: Sheet) -> None:
     model, x = sheet.model, float(EDGE)
-    told = {value for lane in model.lanes.values() for _, _, value in lane.words.between(model.first, model.last)}
+    printed = {value for lane in model.lanes.values() for _, _, value in lane.words.between(model.first, model.last)}
     if any(lane.words.end() <= model.last for lane in model.lanes.values()):
-        told.add(None)
-    for word in (it for it in LOOKS if it in told):
+        printed.add(None)
+    for word in (it for it in LOOKS if it in printed):
         draw_square(sheet, x, sheet.top, word, SQUARE)
         sheet.text(x + SQUARE + 4, sheet.top + LANE / 2 + 4, MEANINGS[word], FAINT)
         x += SQUARE + 12 + len(MEANINGS[word]) * 7
-    marks = any(len(lane.told) for lane in model.lanes.values())
+    marks = any(len(lane.printed) for lane in model.lanes.values())
     notes = list[str]()
     if marks and sheet.cell >= NARROWEST:
         sheet.add(f'<circle cx="{plain(x + 8)}" cy="{plain(sheet.top + LANE / 2)}" r="2.5" fill="{INK}"/>')

@@ -40,7 +40,7 @@ from r2u2tools.common import cli
 from r2u2tools.verdicts.left_sides import exercised, from_contracts, runs_twice
 from r2u2tools.common.r2u2_run import Command
 from r2u2tools.common.specs import read_spec
-from r2u2tools.common.cli import Trouble
+from r2u2tools.common.cli import ToolError
 from r2u2tools.verdicts.counts import Result, Rules, counted, rows_of
 from r2u2tools.verdicts.diff import told_diff
 from r2u2tools.verdicts.junit import as_github, as_junit, as_tap
@@ -49,92 +49,92 @@ from r2u2tools.verdicts.records import as_json
 from r2u2tools.verdicts.table import as_table
 
 
-def parser() -> cli.Words:
+def make_parser() -> cli.Parser:
     """The options."""
-    words = cli.words(__doc__)
-    form = words.add_mutually_exclusive_group()
+    parser = cli.parser(__doc__)
+    form = parser.add_mutually_exclusive_group()
     form.add_argument("--json", action="store_true", help="print one object of JSON in place of the table")
     form.add_argument("--junit", action="store_true", help="print a test for each output, for continuous integration")
     form.add_argument("--tap", action="store_true", help="print a line for each output, as the Test Anything Protocol has it")
     form.add_argument("--github", action="store_true", help="print annotations of GitHub at the lines of what fails")
-    words.add_argument(
+    parser.add_argument(
         "--ignore", metavar="NAME", action="append", default=[],
         help="an output that may have F or invalid, or no verdict",
     )
-    words.add_argument("--spec", metavar="FILE", help="a specification or program, for outputs without a line")
-    words.add_argument("--log", metavar="NAME", help="the name of the log in --json, --junit and --merge")
-    words.add_argument("--exercised", action="store_true", help="count how often left sides were true")
-    words.add_argument("--fail-untried", action="store_true", help="status 1 where a left side was never true")
-    words.add_argument("--fail-undecided", action="store_true", help="status 1 where a time is undecided")
-    words.add_argument("--diff", metavar="OTHER", help="print where LINES and OTHER differ")
-    words.add_argument("--merge", action="store_true", help="make one result of many files that --json printed")
-    words.add_argument("files", metavar="LINES", nargs="*", help="verdict lines; with --merge, files of --json")
-    return words
+    parser.add_argument("--spec", metavar="FILE", help="a specification or program, for outputs without a line")
+    parser.add_argument("--log", metavar="NAME", help="the name of the log in --json, --junit and --merge")
+    parser.add_argument("--exercised", action="store_true", help="count how often left sides were true")
+    parser.add_argument("--fail-untried", action="store_true", help="status 1 where a left side was never true")
+    parser.add_argument("--fail-undecided", action="store_true", help="status 1 where a time is undecided")
+    parser.add_argument("--diff", metavar="OTHER", help="print where LINES and OTHER differ")
+    parser.add_argument("--merge", action="store_true", help="make one result of many files that --json printed")
+    parser.add_argument("files", metavar="LINES", nargs="*", help="verdict lines; with --merge, files of --json")
+    return parser
 
 
-def asked() -> Namespace:
+def parse_args() -> Namespace:
     """The arguments; those after `--` are a command."""
-    words, given = parser(), sys.argv[1:]
+    parser, given = make_parser(), sys.argv[1:]
     place = given.index("--") if "--" in given else len(given)
-    found, found.command = words.parse_args(given[:place]), given[place + 1 :]
-    fault = misused(found, place < len(given))
+    args, args.command = parser.parse_args(given[:place]), given[place + 1 :]
+    fault = misused(args, place < len(given))
     if fault:
-        words.error(fault)
-    return found
+        parser.error(fault)
+    return args
 
 
-def misused(found: Namespace, dashes: bool) -> Optional[str]:
+def misused(args: Namespace, dashes: bool) -> Optional[str]:
     """What doesn't fit together in the arguments, or None."""
-    if dashes and not found.command:
+    if dashes and not args.command:
         return "no command after --"
-    if found.command and (found.files or found.merge or found.diff):
+    if args.command and (args.files or args.merge or args.diff):
         return "a command after -- excludes LINES, --merge and --diff"
-    if found.merge and not found.files:
+    if args.merge and not args.files:
         return "--merge needs files that --json printed"
-    if not found.merge and len(found.files) > 1:
+    if not args.merge and len(args.files) > 1:
         return "one file of LINES at a time"
-    alone = found.merge or found.json or found.junit or found.tap or found.github or found.exercised or found.ignore
-    if found.diff and (alone or found.fail_untried or found.fail_undecided):
+    alone = args.merge or args.json or args.junit or args.tap or args.github or args.exercised or args.ignore
+    if args.diff and (alone or args.fail_untried or args.fail_undecided):
         return "--diff takes no other option"
-    if found.merge and found.exercised:
+    if args.merge and args.exercised:
         return "--exercised belongs to the runs, before --merge"
-    if found.fail_untried and not (found.exercised or found.merge):
+    if args.fail_untried and not (args.exercised or args.merge):
         return "--fail-untried needs --exercised"
     return None
 
 
-def one_result(found: Namespace) -> Result:
+def one_result(args: Namespace) -> Result:
     """The result of one log: of a command that is run, or of lines that are read."""
     began = time.monotonic()
-    result = of_command(found) if found.command else of_lines(found)
-    if found.exercised:
+    result = of_command(args) if args.command else of_lines(args)
+    if args.exercised:
         from_contracts(result)
     result.close()
     result.seconds = time.monotonic() - began
     return result
 
 
-def of_command(found: Namespace) -> Result:
+def of_command(args: Namespace) -> Result:
     """The result of a run."""
-    command = Command(found.command)
-    if found.exercised:
+    command = Command(args.command)
+    if args.exercised:
         runs_twice(command)
-    told = command.r2u2
-    result = Result(found.log or command.log(), spec=told.file if told else None)
-    take_spec(result, found.spec or result.spec, found.spec is None)
+    r2u2_args = command.r2u2
+    result = Result(args.log or command.log(), spec=r2u2_args.file if r2u2_args else None)
+    take_spec(result, args.spec or result.spec, args.spec is None)
     command.run(lambda file: counted(file, result), result)
-    if told and told.trace != "-":
-        result.rows = rows_of(told.trace, "--timed" in told.flags)
-    if found.exercised and not result.failed and not result.stopped:
+    if r2u2_args and r2u2_args.trace != "-":
+        result.rows = rows_of(r2u2_args.trace, "--timed" in r2u2_args.flags)
+    if args.exercised and not result.failed and not result.stopped:
         exercised(command, result)
     return result
 
 
-def of_lines(found: Namespace) -> Result:
+def of_lines(args: Namespace) -> Result:
     """The result of lines that are read."""
-    path = found.files[0] if found.files else "-"
-    result = Result(found.log or (None if path == "-" else path), spec=found.spec)
-    take_spec(result, found.spec, False)
+    path = args.files[0] if args.files else "-"
+    result = Result(args.log or (None if path == "-" else path), spec=args.spec)
+    take_spec(result, args.spec, False)
     with cli.opened(path) as file:
         counted(file, result)
     return result
@@ -146,7 +146,7 @@ def take_spec(result: Result, path: Optional[str], lenient: bool) -> None:
         return
     try:
         spec = read_spec(path)
-    except Trouble:
+    except ToolError:
         if lenient:
             return
         raise
@@ -159,16 +159,16 @@ def take_spec(result: Result, path: Optional[str], lenient: bool) -> None:
 
 
 def main() -> int:
-    found = asked()
-    if found.diff:
-        return told_diff(found.files[0] if found.files else "-", found.diff)
-    result = merged(found.files) if found.merge else one_result(found)
-    unknown = [name for name in found.ignore if name not in result.outputs]
+    args = parse_args()
+    if args.diff:
+        return told_diff(args.files[0] if args.files else "-", args.diff)
+    result = merged(args.files) if args.merge else one_result(args)
+    unknown = [name for name in args.ignore if name not in result.outputs]
     for name in unknown:
         cli.note(f"no output {name}, which is to be ignored{like(name, result.outputs)}")
-    rules = Rules(tuple(found.ignore), found.fail_untried, found.fail_undecided)
+    rules = Rules(tuple(args.ignore), args.fail_untried, args.fail_undecided)
     forms = {"json": as_json, "junit": as_junit, "tap": as_tap, "github": as_github}
-    text = next((forms[form] for form in forms if getattr(found, form)), as_table)(result, rules)
+    text = next((forms[form] for form in forms if getattr(args, form)), as_table)(result, rules)
     print(text, end="\n" * bool(text))
     return max(result.status(rules), cli.TROUBLE * bool(unknown))
 

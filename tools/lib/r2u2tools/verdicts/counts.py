@@ -6,9 +6,9 @@ import os
 from dataclasses import dataclass, field
 from typing import IO, Any, Iterable, Optional
 
-from r2u2tools.common.cli import Stopped, Trouble, opened
+from r2u2tools.common.cli import Stopped, ToolError, opened
 from r2u2tools.common.progress import Progress
-from r2u2tools.common.r2u2_run import Ended
+from r2u2tools.common.r2u2_run import RunResult
 from r2u2tools.common.streams import lines_of
 from r2u2tools.common.traces import LONGEST
 from r2u2tools.common.verdict_lines import BAD, Reader
@@ -118,7 +118,7 @@ class Rules:
 
 
 @dataclass
-class Result(Ended):
+class Result(RunResult):
     """What one log or many gave: outputs by name in their order, runs that failed, logs without a verdict."""
 
     names: Iterable[str] = ()
@@ -192,7 +192,7 @@ def rows_of(path: str, timed: bool) -> Optional[int]:
             for number, line in lines_of(file, LONGEST):
                 if line.strip(b" \t\r") and not (number == 1 and line[:1] == b"#"):
                     count, last = count + 1, line
-    except (Trouble, OSError):
+    except (ToolError, OSError):
         return None
     if not timed:
         return count

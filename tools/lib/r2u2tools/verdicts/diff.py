@@ -5,7 +5,7 @@ from __future__ import annotations
 from collections import deque
 from typing import Iterator
 
-from r2u2tools.common.cli import Trouble, opened
+from r2u2tools.common.cli import ToolError, opened
 from r2u2tools.common.verdict_lines import Reader
 
 SHOWN = 10
@@ -86,7 +86,7 @@ def of_output(name: str, output: Compared, paths: list[str]) -> Iterator[str]:
 def told_diff(lines: str, other: str) -> int:
     """Prints where two files of verdict lines part; 0 where they don't, 1 where they do."""
     if str(lines) == str(other) == "-":
-        raise Trouble("one of the two has to be a file")
+        raise ToolError("one of the two has to be a file")
     paths = [str(lines), str(other)]
     found = [text for name, output in walk(paths).items() for text in of_output(name, output, paths)]
     print("\n".join(found) if found else "both have the same verdicts")

@@ -14,7 +14,7 @@ from typing import Optional
 from r2u2tools.common import cli
 from r2u2tools.common.rerun import TOLD, as_text, fresh, made
 from r2u2tools.common.r2u2_run import Command
-from r2u2tools.common.cli import Trouble
+from r2u2tools.common.cli import ToolError
 from r2u2tools.common.specs import Output, Spec, Token
 from r2u2tools.verdicts.counts import Result, counted
 
@@ -138,17 +138,17 @@ def watch(command: Command, result: Result, folder: str) -> None:
     again.run(lambda lines: counted(lines, left), left)
     result.stopped = left.stopped
     if left.failed:
-        raise Trouble(f"left sides: {left.failed[0]['message']}")
+        raise ToolError(f"left sides: {left.failed[0]['message']}")
     for name, output in names.items():
         told = left.outputs.get(name)
         result.output(output).left = {"true": told.words.get("T", 0), "of": told.decided} if told else {"true": 0, "of": 0}
 
 
 def runs_twice(command: Command) -> None:
-    """Trouble where a command can't be run over the same trace once more."""
+    """ToolError where a command can't be run over the same trace once more."""
     words = command.r2u2
     if not words or words.file in (None, "-") or words.trace == "-":
-        raise Trouble("--exercised runs r2u2 twice: name a specification or program, and a trace, that are files")
+        raise ToolError("--exercised runs r2u2 twice: name a specification or program, and a trace, that are files")
 
 
 def exercised(command: Command, result: Result) -> None:
@@ -156,5 +156,5 @@ def exercised(command: Command, result: Result) -> None:
     try:
         with tempfile.TemporaryDirectory() as folder:
             watch(command, result, folder)
-    except Trouble as trouble:
+    except ToolError as trouble:
         cli.note(trouble)

@@ -9,7 +9,7 @@ import os
 from typing import Any, Iterator
 
 from r2u2tools.common import cli
-from r2u2tools.common.cli import Trouble, opened
+from r2u2tools.common.cli import ToolError, opened
 from r2u2tools.verdicts.counts import Result
 from r2u2tools.verdicts.records import from_json
 
@@ -33,11 +33,11 @@ def results(raw: bytes) -> list[Result]:
     try:
         found = [from_json(record) for record in documents(raw.decode("utf-8"))]
     except ValueError as fault:
-        raise Trouble(f"not JSON: {fault}") from None
+        raise ToolError(f"not JSON: {fault}") from None
     except RecursionError:
-        raise Trouble("not JSON that verdicts prints: nested too deeply") from None
+        raise ToolError("not JSON that verdicts prints: nested too deeply") from None
     if not found:
-        raise Trouble("an empty file")
+        raise ToolError("an empty file")
     return found
 
 
@@ -62,7 +62,7 @@ class Merger:
             self.compare(path, raw)
             for result in results(raw):
                 self.join(result, path)
-        except Trouble as fault:
+        except ToolError as fault:
             text = str(fault)
             cli.note(text if text.startswith("cannot") else f"{path}: {text}")
             self.lost(path)

@@ -5,7 +5,7 @@ from __future__ import annotations
 import json
 from typing import Any, Optional
 
-from r2u2tools.common.cli import Trouble
+from r2u2tools.common.cli import ToolError
 from r2u2tools.common.verdict_lines import WORDS
 from r2u2tools.verdicts.counts import Event, Output, Result, Rules
 
@@ -92,7 +92,7 @@ def failure_of(record: Any) -> dict[str, Any]:
 def from_json(record: Any) -> Result:
     """Returns the result that as_json wrote; other values are refused."""
     if not isinstance(record, dict) or record.get("verdicts") != LAYOUT:
-        raise Trouble(FOREIGN)
+        raise ToolError(FOREIGN)
     try:
         result = Result(text(record, "log"), logs=number(record, "logs"), spec=text(record, "spec"))
         result.lines, result.seconds = number(record, "lines"), float(fit(record["seconds"], int, float))
@@ -102,5 +102,5 @@ def from_json(record: Any) -> Result:
             output = output_of(kept)
             result.outputs[output.name] = output
     except (KeyError, TypeError, ValueError, AttributeError, OverflowError):
-        raise Trouble(FOREIGN) from None
+        raise ToolError(FOREIGN) from None
     return result

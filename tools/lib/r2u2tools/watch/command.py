@@ -30,7 +30,7 @@ from pathlib import Path
 from typing import NoReturn, Optional
 
 from r2u2tools.common import cli
-from r2u2tools.common.cli import Trouble
+from r2u2tools.common.cli import ToolError
 from r2u2tools.common.specs import read_spec
 from r2u2tools.watch.alarm import Alarms, Event, Reasons, words_of
 from r2u2tools.watch.board import Board
@@ -40,7 +40,7 @@ DRAW = 0.25
 UP, WIPE = "\x1b[{}A", "\x1b[K"
 
 
-class Ended(Exception):
+class Interrupted(Exception):
     """A signal came."""
 
     def __init__(self, number: int) -> None:
@@ -48,37 +48,37 @@ class Ended(Exception):
         self.number = number
 
 
-def asked() -> Namespace:
-    words = cli.words(__doc__)
-    words.add_argument("--timed", action="store_true", help="the rows have stamps")
-    words.add_argument("--on-false", metavar="COMMAND", help="a line of shell that is run where an output gets F or invalid")
-    words.add_argument("--stop-at-first", action="store_true", help="end with exit code 1 at the first F or invalid")
-    words.add_argument(
+def parse_args() -> Namespace:
+    parser = cli.parser(__doc__)
+    parser.add_argument("--timed", action="store_true", help="the rows have stamps")
+    parser.add_argument("--on-false", metavar="COMMAND", help="a line of shell that is run where an output gets F or invalid")
+    parser.add_argument("--stop-at-first", action="store_true", help="end with exit code 1 at the first F or invalid")
+    parser.add_argument(
         "--keep", metavar="N", type=cli.count, default=100_000, help="how many of the latest rows are kept for reasons; by default 100000"
     )
-    words.add_argument("--quiet", action="store_true", help="print no table and no lines")
-    words.add_argument("spec", metavar="SPEC", help="a specification or a compiled program")
-    words.add_argument("trace", metavar="TRACE", nargs="?", default="-", help="rows; by default the standard input")
-    return words.parse_args()
+    parser.add_argument("--quiet", action="store_true", help="print no table and no lines")
+    parser.add_argument("spec", metavar="SPEC", help="a specification or a compiled program")
+    parser.add_argument("trace", metavar="TRACE", nargs="?", default="-", help="rows; by default the standard input")
+    return parser.parse_args()
 
 
 class Watch:
     """A stream that is watched, with what is shown and done."""
 
-    def __init__(self, found: Namespace, folder: str) -> None:
-        self.found = found
-        spec = read_spec(found.spec)
+    def __init__(self, args: Namespace, folder: str) -> None:
+        self.found = args
+        spec = read_spec(args.spec)
         self.board = Board([output.name for output in spec.outputs])
-        self.rows = Rows(found.keep)
-        self.reasons = Reasons(found.spec, Path(folder, "rows.csv"), self.rows, found.timed)
-        self.alarms = Alarms(found.on_false, self.reasons) if found.on_false else None
+        self.rows = Rows(args.keep)
+        self.reasons = Reasons(args.spec, Path(folder, "rows.csv"), self.rows, args.timed)
+        self.alarms = Alarms(args.on_false, self.reasons) if args.on_false else None
         self.first: Optional[Event] = None
         self.drawn = 0
-        self.shows = sys.stdout.isatty() and not found.quiet
-        words = words_of(found.spec, spec.is_program(), found.timed)
-        self.stream = Stream(words, cli.opened(found.trace), self.rows, self.heard)
+        self.shows = sys.stdout.isatty() and not args.quiet
+        words = words_of(args.spec, spec.is_program(), args.timed)
+        self.stream = Stream(words, cli.opened(args.trace), self.rows, self.on_verdict)
 
-    def heard(self, name: str, first: int, last: int, word: str) -> None:
+    def on_verdict(self, name: str, first: int, last: int, word: str) -> None:
         """Takes a stretch of verdicts, in the thread that reads them."""
         if self.first and self.found.stop_at_first:
             return
@@ -123,23 +123,23 @@ class Watch:
             if not self.found.quiet:
                 self.draw()
         if not self.rows.count and not self.found.stop_at_first:
-            raise Trouble("no row came")
+            raise ToolError("no row came")
         if self.first and self.found.stop_at_first and not self.found.quiet:
             print(self.reasons.of(self.first))
         return 1 if self.first else 0
 
 
 def ended(number: int, _frame: object) -> NoReturn:
-    raise Ended(number)
+    raise Interrupted(number)
 
 
 def main() -> int:
-    found = asked()
+    args = parse_args()
     signal.signal(signal.SIGPIPE, signal.SIG_IGN)
     for number in (signal.SIGINT, signal.SIGTERM, signal.SIGHUP):
         signal.signal(number, ended)
     with tempfile.TemporaryDirectory(prefix="watch-") as folder:
         try:
-            return Watch(found, folder).run()
-        except Ended as fault:
+            return Watch(args, folder).run()
+        except Interrupted as fault:
             return 128 + fault.number

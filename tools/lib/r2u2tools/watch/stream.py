@@ -7,14 +7,14 @@ from collections import deque
 from pathlib import Path
 from typing import IO, Any, Callable, Deque, List, Optional
 
-from r2u2tools.common.cli import Trouble
+from r2u2tools.common.cli import ToolError
 from r2u2tools.common.programs import message, program
 from r2u2tools.common.traces import stamp_of
 from r2u2tools.common.verdict_lines import Reader
 
 BLOCK = 1 << 16
 GRACE = 5
-Heard = Callable[[str, int, int, str], None]
+OnVerdict = Callable[[str, int, int, str], None]
 
 
 class Rows:
@@ -56,8 +56,8 @@ class Rows:
 class Stream:
     """r2u2 between a source of rows and whoever hears its verdicts."""
 
-    def __init__(self, words: List[str], source: IO[bytes], rows: Rows, heard: Heard):
-        self.source, self.rows, self.heard = source, rows, heard
+    def __init__(self, words: List[str], source: IO[bytes], rows: Rows, on_verdict: OnVerdict):
+        self.source, self.rows, self.on_verdict = source, rows, on_verdict
         self.tail = bytearray()
         self.fault: Optional[Exception] = None
         self.stopped = False
@@ -67,7 +67,7 @@ class Stream:
             # a separate group: an interrupt from the terminal ends it by way of this tool
             self.child = subprocess.Popen([program("r2u2"), *words], stdin=pipe, stdout=pipe, stderr=pipe, start_new_session=True)
         except OSError as fault:
-            raise Trouble(f"cannot run r2u2: {fault.strerror}") from None
+            raise ToolError(f"cannot run r2u2: {fault.strerror}") from None
         self.errors = threading.Thread(target=self.keep_errors, daemon=True)
         self.reader = threading.Thread(target=self.read, daemon=True)
 
@@ -99,8 +99,8 @@ class Stream:
         assert self.child.stdout
         try:
             for name, first, last, word in Reader("r2u2").stretches(self.child.stdout):
-                self.heard(name, first, last, word)
-        except (Trouble, ValueError, OSError) as fault:
+                self.on_verdict(name, first, last, word)
+        except (ToolError, ValueError, OSError) as fault:
             self.fault = None if self.stopped else fault
         finally:
             self.ended.set()
@@ -130,6 +130,6 @@ class Stream:
         if self.stopped:
             return
         if self.fault:
-            raise Trouble(f"the trace cannot be read: {getattr(self.fault, 'strerror', None) or self.fault}")
+            raise ToolError(f"the trace cannot be read: {getattr(self.fault, 'strerror', None) or self.fault}")
         if status:
-            raise Trouble(message(bytes(self.tail)) or f"r2u2 ended with status {status}")
+            raise ToolError(message(bytes(self.tail)) or f"r2u2 ended with status {status}")

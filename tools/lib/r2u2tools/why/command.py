@@ -37,7 +37,7 @@ from typing import Optional
 
 from r2u2tools.common import cli
 from r2u2tools.common.output import write
-from r2u2tools.common.cli import Trouble
+from r2u2tools.common.cli import ToolError
 from r2u2tools.common.compiled import compiled
 from r2u2tools.why.explanation import Explainer
 from r2u2tools.why.html_page import page
@@ -63,45 +63,45 @@ class Question:
     seconds: int
 
 
-def asked() -> Question:
-    words = cli.words(__doc__)
-    words.add_argument("--timed", action="store_true", help="the rows of the trace have stamps")
-    words.add_argument("--begin", metavar="ROW", type=cli.count, default=0, help="the first row of TRACE, the rest of a longer one")
-    words.add_argument("--seconds", metavar="N", type=cli.count, default=5, help="how long to look for cells that aren't needed; 5")
-    words.add_argument("--html", metavar="FILE", help="write a page that marks the cells in the rows around them")
-    words.add_argument("spec", metavar="SPEC", help="a specification or a compiled program")
-    words.add_argument("trace", metavar="TRACE", help="a trace, or - for the standard input")
-    words.add_argument("verdict", metavar="NAME:TIME", help="an output and a time, or a verdict line")
-    found = words.parse_args()
-    verdict = ASKED.fullmatch(found.verdict.strip())
+def parse_args() -> Question:
+    parser = cli.parser(__doc__)
+    parser.add_argument("--timed", action="store_true", help="the rows of the trace have stamps")
+    parser.add_argument("--begin", metavar="ROW", type=cli.count, default=0, help="the first row of TRACE, the rest of a longer one")
+    parser.add_argument("--seconds", metavar="N", type=cli.count, default=5, help="how long to look for cells that aren't needed; 5")
+    parser.add_argument("--html", metavar="FILE", help="write a page that marks the cells in the rows around them")
+    parser.add_argument("spec", metavar="SPEC", help="a specification or a compiled program")
+    parser.add_argument("trace", metavar="TRACE", help="a trace, or - for the standard input")
+    parser.add_argument("verdict", metavar="NAME:TIME", help="an output and a time, or a verdict line")
+    args = parser.parse_args()
+    verdict = ASKED.fullmatch(args.verdict.strip())
     if not verdict:
-        raise Trouble(f"no verdict is called {found.verdict}: write NAME:TIME, as in granted:2")
-    return Question(found.spec, found.trace, verdict[1], int(verdict[2]), verdict[3], found.timed, found.begin, found.html, found.seconds)
+        raise ToolError(f"no verdict is called {args.verdict}: write NAME:TIME, as in granted:2")
+    return Question(args.spec, args.trace, verdict[1], int(verdict[2]), verdict[3], args.timed, args.begin, args.html, args.seconds)
 
 
-def explain(asked: Question, folder: Path) -> int:
-    made = compiled(asked.spec, folder)
-    told = made.shown.output(asked.name)
-    explainer = Explainer(made, told, folder, asked.seconds)
-    window = explainer.window(asked.trace, asked.time, asked.timed, asked.begin)
-    if asked.time >= window.rows:
-        print(no_row(asked.name, asked.time, window.rows, asked.timed))
+def explain(args: Question, folder: Path) -> int:
+    made = compiled(args.spec, folder)
+    requirement = made.shown.output(args.name)
+    explainer = Explainer(made, requirement, folder, args.seconds)
+    window = explainer.window(args.trace, args.time, args.timed, args.begin)
+    if args.time >= window.rows:
+        print(no_row(args.name, args.time, window.rows, args.timed))
         return 0
-    found = explainer.explain(window, asked.time)
+    found = explainer.explain(window, args.time)
     trace = Cells(window, explainer.signals)
-    says = Sentences(made.shown, trace, asked.timed)
-    lines = [says.first_line(found, asked.name, asked.time), *says.tree(found)]
+    says = Sentences(made.shown, trace, args.timed)
+    lines = [says.first_line(found, args.name, args.time), *says.tree(found)]
     if found.is_cut:
-        lines.append(f"after {asked.seconds} seconds: not all of these cells may be needed; --seconds {12 * max(asked.seconds, 5)} looks for longer")
+        lines.append(f"after {args.seconds} seconds: not all of these cells may be needed; --seconds {12 * max(args.seconds, 5)} looks for longer")
     print("\n".join(lines))
-    if asked.word and asked.word != found.word:
-        cli.note(f"the line has {asked.word}, and over this trace the verdict is {found.word or 'open'}")
-    if asked.html:
-        write(asked.html, page(lines, told.name, found, asked.time, trace, explainer.kinds()))
+    if args.word and args.word != found.word:
+        cli.note(f"the line has {args.word}, and over this trace the verdict is {found.word or 'open'}")
+    if args.html:
+        write(args.html, page(lines, requirement.name, found, args.time, trace, explainer.kinds()))
     return 0
 
 
 def main() -> int:
     sys.setrecursionlimit(DEEPEST)
     with tempfile.TemporaryDirectory(prefix="why-") as folder:
-        return explain(asked(), Path(folder))
+        return explain(parse_args(), Path(folder))

@@ -99,14 +99,14 @@ class Side:
     def sums(self, word: int) -> list[float]:
         """The sums of the costs of all places before each one; a place of another word costs nothing."""
         total, found = 0.0, [0.0]
-        for told, cost in zip(self.words, self.costs):
-            total += cost if told == word and cost < NEVER else 0.0
+        for its, cost in zip(self.words, self.costs):
+            total += cost if its == word and cost < NEVER else 0.0
             found.append(total)
         return found
 
     def costs_of(self, word: int, more: Iterable[float]) -> list[float]:
         """The costs where the operand has a word, each with a further number."""
-        return [cost + it if told == word else NEVER for told, cost, it in zip(self.words, self.costs, more)]
+        return [cost + it if its == word else NEVER for its, cost, it in zip(self.words, self.costs, more)]
 
 
 class Window:
@@ -177,8 +177,8 @@ class Derivation:
     def weigh(self, ref: str) -> None:
         node, part = self.parts.node(ref), self.verdicts.by_ref[ref]
         if node is None:
-            told = self.costs.of_leaf(ref, self.parts.shown.signals_of(ref), part.low, part.high)
-            self.cost[ref] = [NEVER if word == UNKNOWN else cost for word, cost in zip(part.words, told)]
+            costs = self.costs.of_leaf(ref, self.parts.shown.signals_of(ref), part.low, part.high)
+            self.cost[ref] = [NEVER if word == UNKNOWN else cost for word, cost in zip(part.words, costs)]
         elif node.op in ("!", "&&"):
             self.weigh_row(ref, node, part)
         else:

@@ -8,7 +8,7 @@ from pathlib import Path
 from typing import Optional, Union
 
 from r2u2tools.common.compiled import Compiled, quote
-from r2u2tools.common.cli import Trouble
+from r2u2tools.common.cli import ToolError
 from r2u2tools.common.program_text import Bare, Count, ProgramText, Requirement
 from r2u2tools.common.specs import read_spec
 from r2u2tools.why.deciding import Cell, Derivation, derivation
@@ -92,14 +92,14 @@ class Tree:
         bare, turned = self.shown.bare(ref)
         ref, word, denied = bare, DENIED[word] if turned else word, denied != turned
         denied = denied and self.shown.form(ref, True).op != "!"
-        told = DENIED[word] if denied else word
+        said = DENIED[word] if denied else word
         if self.shown.is_leaf(ref):
-            return self.leaf(ref, denied, told, times)
+            return self.leaf(ref, denied, said, times)
         count = self.shown.counts.get((ref, False)) or self.shown.counts.get((ref, True))
         if count:
-            return self.counted(Reason(ref, denied, told, sorted(times)), word, count)
+            return self.counted(Reason(ref, denied, said, sorted(times)), word, count)
         below = in_order(self.merged(ref, denied, self.source.below(ref, word, times)))
-        return Reason(ref, denied, told, sorted(times), below, union(below))
+        return Reason(ref, denied, said, sorted(times), below, union(below))
 
     def counted(self, reason: Reason, word: int, count: Count) -> Reason:
         """The members on which a quantifier depends, in the place of the parts that count them."""
@@ -166,14 +166,14 @@ def union(reasons: list[Reason]) -> frozenset[Cell]:
 class Explainer:
     """Explains verdicts of one output of a program over a trace."""
 
-    def __init__(self, made: Compiled, told: Requirement, folder: Path, seconds: float = 5.0) -> None:
+    def __init__(self, made: Compiled, requirement: Requirement, folder: Path, seconds: float = 5.0) -> None:
         self.seconds = seconds
-        self.made, self.told, self.shown = made, told, made.shown
-        self.parts = Parts(made.shown, told)
+        self.made, self.requirement, self.shown = made, requirement, made.shown
+        self.parts = Parts(made.shown, requirement)
         self.columns = made.program.columns()
         self.watch = PartWatch(self.parts, made.program, folder)
         self.signals = [signal for signal in read_spec(made.path).signals if signal.name in self.parts.signals]
-        quote(made, told, folder)
+        quote(made, requirement, folder)
 
     def kinds(self) -> dict[str, str]:
         """The signals that the output reads, with their kinds."""
@@ -197,7 +197,7 @@ class Explainer:
         word = words[-1]
         if word is None or None in words:
             return self.open(window, first, time if word is None else first + words.index(None))
-        roots = [(ref, need) for ref, need in zip(self.told.operands(), NEEDS[word])]
+        roots = [(ref, need) for ref, need in zip(self.requirement.operands(), NEEDS[word])]
         return self.decided(window, verdicts, roots, time, word)
 
     def over(self, window: TraceWindow, spans: dict[str, tuple[int, int]]) -> Verdicts:
@@ -211,15 +211,15 @@ class Explainer:
             rows.append(row)
         try:
             return self.watch.over(rows, origin, spans)
-        except Trouble as trouble:
-            raise Trouble(LINE.sub(lambda it: f"{it[1]}{numbers[int(it[2]) - 1]}", str(trouble))) from None
+        except ToolError as trouble:
+            raise ToolError(LINE.sub(lambda it: f"{it[1]}{numbers[int(it[2]) - 1]}", str(trouble))) from None
 
     def open(self, window: TraceWindow, first: int, time: int) -> Explanation:
         """What an open verdict waits for."""
         spans = {ref: (first, high) for ref, (_, high) in self.parts.spans(first, time).items()}
         verdicts = self.over(window, spans)
         source = OpenVerdicts(verdicts)
-        refs = [ref for ref in self.told.operands() if verdicts.at(ref, time) == UNKNOWN]
+        refs = [ref for ref in self.requirement.operands() if verdicts.at(ref, time) == UNKNOWN]
         at = max(source.first(ref, time) for ref in refs)
         tree = Tree(self.shown, source)
         reasons = in_order([tree.reason(ref, UNKNOWN, {source.first(ref, at)}) for ref in refs])

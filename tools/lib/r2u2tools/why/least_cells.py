@@ -12,7 +12,7 @@ from dataclasses import dataclass, field
 from time import monotonic
 from typing import Mapping, Optional, Sequence
 
-from r2u2tools.common.cli import Trouble
+from r2u2tools.common.cli import ToolError
 from r2u2tools.why.deciding import Cell, Derivation, LeafCosts
 from r2u2tools.why.omega import Unknown, Values
 from r2u2tools.why.part_verdicts import Parts, PartWatch, Verdicts
@@ -141,5 +141,5 @@ class LeastCells:
         lines = [",".join(str(rows.get((name, time), 0)) for name in self.columns).encode() + b"\n" for time in self.times]
         try:
             return self.watch.over(lines, self.origin, self.spans)
-        except Trouble:
+        except ToolError:
             raise Unknown from None

@@ -15,7 +15,7 @@ from typing import Iterable, Optional, Sequence
 from r2u2tools.common.program_file import Program
 from r2u2tools.common.program_text import Node, ProgramText, Requirement
 from r2u2tools.common.programs import message, program
-from r2u2tools.common.cli import Trouble
+from r2u2tools.common.cli import ToolError
 from r2u2tools.common.verdict_lines import Reader
 
 FALSE, TRUE, UNKNOWN = 0, 1, 2
@@ -45,9 +45,9 @@ class Part:
 class Parts:
     """The parts of an output below its references, operands first, and how far from a time those rows lie that matter."""
 
-    def __init__(self, shown: ProgramText, told: Requirement) -> None:
-        self.shown, self.told = shown, told
-        below = shown.below(*told.operands())
+    def __init__(self, shown: ProgramText, requirement: Requirement) -> None:
+        self.shown, self.requirement = shown, requirement
+        below = shown.below(*requirement.operands())
         self.refs = [ref for ref in (*shown.signals, "true", *shown.nodes) if ref in below and shown.is_truth(ref)]
         self.ahead, self.back = self.farthest("U"), self.farthest("S")
         self.signals = [name for name in shown.signals if name in below]
@@ -63,7 +63,7 @@ class Parts:
             node = self.node(ref)
             own = node.high if node and node.op == op else 0
             far[ref] = own + max(far[operand] for operand in node.operands()) if node else 0
-        return max(far[ref] for ref in self.told.operands())
+        return max(far[ref] for ref in self.requirement.operands())
 
     def first(self, time: int, rows: int) -> int:
         """The first time whose verdict may keep that of a time back, over that number of rows."""
@@ -80,7 +80,7 @@ class Parts:
                 ahead = node.high if node and node.op == "U" else 0
                 spans[operand] = min(before, max(0, low - back)), max(after, high + ahead)
         if sum(high - low + 1 for low, high in spans.values()) > MOST_TIMES:
-            raise Trouble(f"{self.told.name} at {last} reads more than {MOST_TIMES} times of its parts: too many to explain")
+            raise ToolError(f"{self.requirement.name} at {last} reads more than {MOST_TIMES} times of its parts: too many to explain")
         return spans
 
 
@@ -96,7 +96,7 @@ class Verdicts:
 
     def word(self, time: int) -> Optional[str]:
         """The word of the output at a time by those of its references; None where they leave it open."""
-        words = [self.at(ref, time) for ref in self.parts.told.operands()]
+        words = [self.at(ref, time) for ref in self.parts.requirement.operands()]
         if words[0] == FALSE and len(words) == 2:
             return "inactive"
         if UNKNOWN in words:
@@ -109,7 +109,7 @@ class PartWatch:
 
     def __init__(self, parts: Parts, program: Program, folder: Path) -> None:
         self.parts, self.trace, self.path = parts, Path(folder, "parts.csv"), Path(folder, "parts.obs")
-        part = "ft" if parts.told.section == "FTSPEC" else "pt"
+        part = "ft" if parts.requirement.section == "FTSPEC" else "pt"
         places = {parts.shown.refs[place]: place for place in program.instructions if place[0] == part}
         stem = fresh_stem([output.name for output in program.outputs])
         self.names = {f"{stem}{k}": ref for k, ref in enumerate(parts.refs)}
@@ -140,7 +140,7 @@ class PartWatch:
                     return
             text = message(run.stderr.read())
         if run.returncode:
-            raise Trouble(text or f"r2u2 ended with status {run.returncode}")
+            raise ToolError(text or f"r2u2 ended with status {run.returncode}")
 
 
 def fresh_stem(names: Sequence[str]) -> str:

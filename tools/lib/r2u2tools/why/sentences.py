@@ -32,8 +32,8 @@ def stretch(times: Sequence[int], singly: int = SINGLY) -> str:
     if len(times) <= singly:
         return joined([str(time) for time in times])
     runs = runs_of(times)
-    told = [str(first) if first == last else f"{first} to {last}" for first, last in runs[:MOST_RUNS]]
-    return joined(told) if len(runs) <= MOST_RUNS else f"{', '.join(told)}, and {len(runs) - MOST_RUNS} more stretches"
+    texts = [str(first) if first == last else f"{first} to {last}" for first, last in runs[:MOST_RUNS]]
+    return joined(texts) if len(runs) <= MOST_RUNS else f"{', '.join(texts)}, and {len(runs) - MOST_RUNS} more stretches"
 
 
 def span_of(values: Sequence[str]) -> str:
@@ -70,10 +70,10 @@ class Sentences:
         names = self.shown.signals_of(leaf.ref)
         if leaf.ref in names or not names:
             return ""
-        told = [span_of([self.trace.value(name, time) for time in leaf.times]) for name in names]
+        texts = [span_of([self.trace.value(name, time) for time in leaf.times]) for name in names]
         if self.shown.nodes[leaf.ref].operands() and names[0] in self.shown.nodes[leaf.ref].operands() and len(names) == 1:
-            return f" ({told[0]})"
-        return f" ({'; '.join(f'{name} is {value}' for name, value in zip(names, told))})"
+            return f" ({texts[0]})"
+        return f" ({'; '.join(f'{name} is {value}' for name, value in zip(names, texts))})"
 
     def leaf(self, leaf: Reason) -> str:
         text, word = self.worded(leaf.ref, leaf.denied, leaf.word)
@@ -96,8 +96,8 @@ class Sentences:
 
     def tally(self, hold: list[Bare], count: Count) -> str:
         """As `2 of 3 hold: x, y; the quantifier takes at least 3`."""
-        told = [shortened(self.worded(ref, denied, TRUE)[0], 30) for ref, denied in hold[:MOST_LEAVES]]
-        names = f": {', '.join(told)}{', ..' * (len(hold) > MOST_LEAVES)}" if told else ""
+        texts = [shortened(self.worded(ref, denied, TRUE)[0], 30) for ref, denied in hold[:MOST_LEAVES]]
+        names = f": {', '.join(texts)}{', ..' * (len(hold) > MOST_LEAVES)}" if texts else ""
         return f"{len(hold)} of {len(count.members)} hold{names}; the quantifier takes {count.wanted()}"
 
     def line(self, reason: Reason) -> str:
@@ -124,9 +124,9 @@ class Sentences:
         """All that decides a verdict, or that an open one waits for, in one line."""
         if found.word is None:
             return self.waits(found)
-        told = [self.leaf(leaf) for leaf in self.deciding(found)]
-        more = f"; and {len(told) - MOST_LEAVES} more" if len(told) > MOST_LEAVES else ""
-        return "; ".join(told[:MOST_LEAVES]) + more if told else "whatever the rows hold"
+        texts = [self.leaf(leaf) for leaf in self.deciding(found)]
+        more = f"; and {len(texts) - MOST_LEAVES} more" if len(texts) > MOST_LEAVES else ""
+        return "; ".join(texts[:MOST_LEAVES]) + more if texts else "whatever the rows hold"
 
     def deciding(self, found: Explanation) -> Iterator[Reason]:
         """The leaves at those times at which one of their cells decides the verdict, each once, also where several windows have it."""
@@ -149,8 +149,8 @@ class Sentences:
 
     def rows_to_come(self, cells: frozenset[Cell]) -> str:
         times = {name: sorted(at for it, at in cells if it == name) for name in self.shown.signals}
-        told = [f"{name} {self.within(at)}" for name, at in times.items() if at]
-        return f"waits for {joined(told)}" if told else ""
+        texts = [f"{name} {self.within(at)}" for name, at in times.items() if at]
+        return f"waits for {joined(texts)}" if texts else ""
 
     def within(self, times: Sequence[int], word: str = "in") -> str:
         return f"{word} {self.unit if len(times) == 1 else self.unit + 's'} {stretch(times, 2)}"

@@ -5,7 +5,7 @@ from __future__ import annotations
 from dataclasses import dataclass, field
 from typing import IO, Iterable, Iterator, Optional, Sequence
 
-from r2u2tools.common.cli import Trouble, opened
+from r2u2tools.common.cli import ToolError, opened
 from r2u2tools.common.program_file import Signal
 from r2u2tools.common.streams import lines_of
 from r2u2tools.common.traces import LONGEST, header_of, places_of, stamp_of
@@ -38,7 +38,7 @@ class TraceWindow:
     def reach(self, first: int) -> None:
         """Refuses to explain what depends on rows from a time on, where the file begins after it."""
         if first < self.begin:
-            raise Trouble(f"{self.path}: the verdict needs the rows from {first} on, and the first is {self.begin}")
+            raise ToolError(f"{self.path}: the verdict needs the rows from {first} on, and the first is {self.begin}")
 
     def since(self, first: int) -> Iterator[tuple[int, bytes]]:
         """One row for each time from `first` on, with its number in the file."""
@@ -63,7 +63,7 @@ class Cells:
         for line in window.lines:
             fields = [it.strip(" \t\r") for it in line.text.decode("utf-8", "replace").split(",")]
             if len(fields) <= max(self.places.values(), default=-1):
-                raise Trouble(f"{window.path}: line {line.number}: too few fields")
+                raise ToolError(f"{window.path}: line {line.number}: too few fields")
             self.by_time.update(dict.fromkeys(range(line.first, line.last + 1), fields))
 
     def value(self, name: str, time: int) -> str:
@@ -80,7 +80,7 @@ def rows_of(file: IO[bytes], window: TraceWindow, timed: bool) -> Iterator[tuple
             if timed:
                 at, line = stamp_of(line, number)
                 if at <= time or (time < window.begin and at != window.begin):
-                    raise Trouble(f"line {number}: times not rising")
+                    raise ToolError(f"line {number}: times not rising")
                 time = at
             else:
                 window.stamped = window.stamped or line[:1] == b"@"
@@ -108,10 +108,10 @@ def read_window(path: str, low: int, high: int, timed: bool, begin: int = 0) -> 
     try:
         with opened(path) as file:
             window.lines = list(kept_rows(rows_of(file, window, timed), low, high))
-    except Trouble as trouble:
+    except ToolError as trouble:
         text = str(trouble)
-        raise Trouble(text if text.startswith("cannot") else f"{path}: {text}") from None
+        raise ToolError(text if text.startswith("cannot") else f"{path}: {text}") from None
     if window.stamped:
-        raise Trouble(f"{path}: the rows have stamps: give --timed")
+        raise ToolError(f"{path}: the rows have stamps: give --timed")
     window.rows = min(window.rows, high + 1)
     return window
