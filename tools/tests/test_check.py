@@ -13,7 +13,7 @@ from r2u2tools.check import grammar, notes, report
 from r2u2tools.check.faults import check
 from r2u2tools.check.layout import laid_out
 from r2u2tools.check.rewrites import rewritten
-from r2u2tools.check.source import read
+from r2u2tools.common.source import read
 from r2u2tools.check.trace import check_trace
 
 EXAMPLES = sorted((ROOT / "examples").glob("**/*.c2po"))

@@ -7,7 +7,7 @@ import subprocess
 import unittest
 
 from support import PATIENCE, ROOT, TOOLS, Case, shell, tool
-from r2u2tools.common.specs import tokens
+from r2u2tools.common.source import tokens
 
 COMPLETIONS = ROOT / "completions"
 EDITORS = ROOT / "editors"

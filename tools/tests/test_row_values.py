@@ -7,7 +7,7 @@ from unittest import mock
 from shown_text import definitions
 from r2u2tools.why import row_values
 from r2u2tools.why.omega import Omega, Unknown, value_of
-from r2u2tools.why.row_values import computed, quotient
+from r2u2tools.why.row_values import computed
 
 SMALL = range(-6, 7)
 def expression(dice, lines, depth):

@@ -39,7 +39,7 @@ from typing import List, Tuple
 from r2u2tools.check import layout, report
 from r2u2tools.check.faults import check
 from r2u2tools.check.server import Server
-from r2u2tools.check.source import LARGEST, decoded, encoded
+from r2u2tools.common.source import LARGEST, decoded, encoded
 from r2u2tools.check.trace import check_trace
 from r2u2tools.common import cli
 from r2u2tools.common.specs import MAGIC

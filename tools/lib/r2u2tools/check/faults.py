@@ -15,7 +15,7 @@ from typing import Iterator, List, Optional, Set, Tuple
 
 from r2u2tools.check import grammar, notes
 from r2u2tools.check.rewrites import rewritten
-from r2u2tools.check.source import QUANTIFIERS, Item, Source, Token, encoded, read
+from r2u2tools.common.source import QUANTIFIERS, Item, Source, Token, encoded, read
 from r2u2tools.common.cli import ToolError
 from r2u2tools.common.programs import program, ran
 
@@ -208,7 +208,7 @@ def aimed(source: Source, item: Item, printed: Token, what: str) -> Token:
         return unknown_type(source, item) or printed
     if what == "name declared twice" and printed.text in QUANTIFIERS:
         return item.tokens[item.tokens.index(printed) + 2]
-    body = item.body()
+    body = item.body
     if printed is not item.tokens[0] or not body or item.section == "INPUT":
         return printed
     if what == "mixed tense":
@@ -222,13 +222,13 @@ def aimed(source: Source, item: Item, printed: Token, what: str) -> Token:
 
 def length_of(item: Item, token: Token) -> int:
     """How far the rest of an item's expression goes in the line of a token."""
-    last = [it for it in item.body() if it.line == token.line][-1:] or [token]
-    return last[0].end() - token.start
+    last = [it for it in item.body if it.line == token.line][-1:] or [token]
+    return last[0].end - token.start
 
 
 def unknown_type(source: Source, item: Item) -> Optional[Token]:
     """The first type of an item that isn't declared before it."""
-    structs = {name.text for it in source.items if it.section == "STRUCT" and it.start() < item.start() for name in it.names()}
+    structs = {name.text for it in source.items if it.section == "STRUCT" and it.start < item.start for name in it.names()}
     pairs = list(zip(item.tokens, item.tokens[1:]))[item.section == "STRUCT" and 2 :]
     found = [it for before, it in pairs if before.text in (":", "<") and it.kind == "word" and it.text not in structs]
     return next((it for it in found if it.text not in ("bool", "int", "set")), None)
@@ -294,6 +294,6 @@ def is_built(source: Source, name: str) -> bool:
     structs = {it.names()[0].text for it in source.items if it.section == "STRUCT" and it.names()}
     for item in source.items:
         if item.section == "DEFINE" and [it.text for it in item.names()] == [name]:
-            return bool(item.body()) and item.body()[0].text in structs
+            return bool(item.body) and item.body[0].text in structs
     return False
 

@@ -7,7 +7,7 @@ place to look at; where nothing is found, that place is the item's first token.
 from dataclasses import dataclass
 from typing import List, Optional
 
-from r2u2tools.check.source import QUANTIFIERS, Item, Token
+from r2u2tools.common.source import QUANTIFIERS, Item, Token
 
 INFIX = ("<->", "->", "||", "&&", "==", "!=", "<", "<=", ">", ">=", "+", "-", "*", "/", "%")
 TIMED_INFIX, TIMED_PREFIX = ("U", "R", "S"), ("F", "G", "O", "H")

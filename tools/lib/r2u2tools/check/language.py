@@ -8,7 +8,7 @@ from pathlib import Path
 from typing import Any, Dict, Iterator, List, Optional, Tuple
 
 from r2u2tools.check.faults import Report, ask, spread
-from r2u2tools.check.source import RESERVED, Item, Source, Token
+from r2u2tools.common.source import RESERVED, Item, Source, Token
 from r2u2tools.common.cli import ToolError
 from r2u2tools.common.programs import ran, tool
 
@@ -105,7 +105,7 @@ class Document:
 
     def text_of(self, item: Item) -> str:
         """An item as it is written, in one line."""
-        return " ".join(self.source.text[item.tokens[0].start : item.tokens[-1].end()].split())
+        return " ".join(self.source.text[item.tokens[0].start : item.tokens[-1].end].split())
 
     def follows_point(self, token: Token) -> bool:
         place = self.source.tokens.index(token)
@@ -129,7 +129,7 @@ class Document:
             return "bool, a definition", text, self.cost(name, "PTSPEC" if past else "FTSPEC")
         if refusal == "wrong kind" and not self.asked(f"{name} == 0", "FTSPEC"):
             return "int, a definition", text, ""
-        return ("a set" if item.body() and item.body()[0].text == "{" else "a definition"), text, ""
+        return ("a set" if item.body and item.body[0].text == "{" else "a definition"), text, ""
 
     def with_output(self, section: str, formula: str) -> str:
         label = "hovered"
@@ -174,15 +174,15 @@ class Document:
 
     def completion(self, place: int) -> Iterator[Dict[str, Any]]:
         """What may be typed at a place: parts after a point, otherwise keywords and the names before it."""
-        before = [token for token in self.source.tokens if token.end() <= place]
-        typed = before[-1] if before and before[-1].kind == "word" and before[-1].end() == place else None
+        before = [token for token in self.source.tokens if token.end <= place]
+        typed = before[-1] if before and before[-1].kind == "word" and before[-1].end == place else None
         last = before[-2 if typed else -1] if len(before) > (typed is not None) else None
         if last is not None and last.text == ".":
             for item in self.source.items:
                 for name, kind in item.fields():
                     yield {"label": name.text, "kind": FIELD, "detail": kind}
             return
-        here = next((item for item in self.source.items if item.tokens[-1].end() >= place), None)
+        here = next((item for item in self.source.items if item.tokens[-1].end >= place), None)
         for name in here.variables() if here else ():
             yield {"label": name.text, "kind": VARIABLE, "detail": "member"}
         for item in self.source.items:
@@ -203,7 +203,7 @@ def detail(item: Item) -> str:
     """What a completion says of a name."""
     if item.section == "INPUT":
         return item.tokens[-2].text if len(item.tokens) > 1 else ""
-    return "struct" if item.section == "STRUCT" else " ".join(token.text for token in item.body())[:60]
+    return "struct" if item.section == "STRUCT" else " ".join(token.text for token in item.body)[:60]
 
 
 def cost_of(text: str, name: str) -> str:

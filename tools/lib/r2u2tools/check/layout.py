@@ -7,8 +7,7 @@ how far items are indented, and empty lines: one at most, and none at either end
 import re
 from typing import List, Optional, Union
 
-from r2u2tools.check.source import QUANTIFIERS, Comment, Source, Token, read
-from r2u2tools.common.specs import SECTIONS, TOKEN
+from r2u2tools.common.source import QUANTIFIERS, SECTIONS, TOKEN, Comment, Source, Token, read
 
 ITEM, MORE, FIELD = 2, 4, 4
 OPENING, CLOSING = ("(", "[", "{"), (")", "]", "}")
@@ -103,7 +102,7 @@ class Layout:
         if token.text in OPENING:
             self.inner.append(before.text if token.text == "(" and before and before.text in QUANTIFIERS else token.text)
             if token.text == "{":
-                self.braces.append(bool(APART.match(self.source.text, token.end())))
+                self.braces.append(bool(APART.match(self.source.text, token.end)))
         elif token.text in CLOSING and self.inner:
             self.closed = self.inner.pop()
             if token.text == "}" and self.braces:

@@ -7,7 +7,7 @@ from pathlib import Path
 from typing import Callable, Dict, FrozenSet, List, Optional, Tuple
 
 from r2u2tools.common.programs import HOME
-from r2u2tools.check.source import RESERVED, Item, Token, read
+from r2u2tools.common.source import RESERVED, Item, Token, read
 
 PAGE = HOME / "docs/reference/messages.md"
 CODE = re.compile(r"`([^`]+)`")

@@ -15,7 +15,7 @@ from typing import Any, BinaryIO, Callable, Dict, List, Optional, Set, Union
 from r2u2tools.check.faults import MEANT, Fault, Report, check
 from r2u2tools.check.language import Document
 from r2u2tools.check.layout import laid_out
-from r2u2tools.check.source import LARGEST, NAME, RESERVED, Token, encoded, read
+from r2u2tools.common.source import LARGEST, NAME, RESERVED, Token, encoded, read
 from r2u2tools.common.cli import ToolError
 
 LONGEST = 1 << 24

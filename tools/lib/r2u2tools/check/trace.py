@@ -7,7 +7,7 @@ from typing import Dict, Iterator, List, Optional, Tuple
 
 from r2u2tools.check.faults import Answer, Fault, Report, near
 from r2u2tools.check.notes import Row
-from r2u2tools.check.source import Source, decoded
+from r2u2tools.common.source import Source, decoded
 from r2u2tools.common.cli import opened
 from r2u2tools.common.program_file import Signal
 from r2u2tools.common.programs import message, program

@@ -13,7 +13,8 @@ from r2u2tools.common import programs
 from r2u2tools.common.program_file import Program, read_program
 from r2u2tools.common.programs import ran
 from r2u2tools.common.program_text import Bare, Count, ProgramText, Requirement, program_text
-from r2u2tools.common.specs import MAGIC, Item, Spec, Token, read_spec
+from r2u2tools.common.source import Item, Token
+from r2u2tools.common.specs import MAGIC, Spec, read_spec
 from r2u2tools.common.cli import ToolError, opened
 
 REFUSED = re.compile(r"c2po: line (\d+): (.*)")

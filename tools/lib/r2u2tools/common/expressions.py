@@ -10,7 +10,7 @@ import re
 from dataclasses import dataclass
 from typing import Iterator, Optional, Sequence
 
-from r2u2tools.common.specs import Token, tokens
+from r2u2tools.common.source import Token, tokens
 from r2u2tools.common.cli import ToolError
 
 # How tightly an operator binds; `!` and the operators of time before one operand lie between.

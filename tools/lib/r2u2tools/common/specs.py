@@ -6,40 +6,15 @@ that names can be found; a text that c2po refuses may pass.
 
 from __future__ import annotations
 
-import re
 from dataclasses import dataclass, field
 from pathlib import Path
-from typing import Iterator, Optional, Union
+from typing import Union
 
 from r2u2tools.common.cli import ToolError, os_error
 from r2u2tools.common.program_file import Signal, read_program
+from r2u2tools.common.source import Item, Token, items
 
-SECTIONS = ("STRUCT", "INPUT", "DEFINE", "FTSPEC", "PTSPEC")
-TOKEN = re.compile(
-    r"(?P<blank>[ \t\r\n]+|--[^\n]*)|(?P<word>[A-Za-z_]\w*)|(?P<number>[0-9]+)"
-    r"|(?P<sign><->|->|=>|:=|==|!=|<=|>=|&&|\|\||[(){}\[\],;:.!<>+\-*/%])",
-    re.ASCII,
-)
 MAGIC = b"MLTL"
-
-
-@dataclass
-class Token:
-    text: str
-    start: int
-    end: int
-    line: int
-
-
-@dataclass
-class Item:
-    """One item: its section, its name or None, and the tokens after the name and its sign."""
-
-    section: str
-    name: Optional[str]
-    body: list[Token]
-    start: int = 0
-    end: int = 0
 
 
 @dataclass
@@ -66,48 +41,6 @@ class Spec:
         return bool(self.raw)
 
 
-def tokens(text: str) -> list[Token]:
-    """The tokens of a text, without blanks and comments."""
-    found, place, line = [], 0, 1
-    while place < len(text):
-        part = TOKEN.match(text, place)
-        if not part:
-            raise ToolError(f"line {line}: bad character")
-        if part.lastgroup != "blank":
-            found.append(Token(part[0], part.start(), part.end(), line))
-        line += part[0].count("\n")
-        place = part.end()
-    return found
-
-
-def cut(found: list[Token]) -> Iterator[tuple[str, list[Token]]]:
-    """The tokens cut into items: pairs of a section and the tokens before a `;` outside braces."""
-    section, item, depth = "", list[Token](), 0
-    for token in found:
-        if token.text in SECTIONS and not item:
-            section = token.text
-            continue
-        if not section:
-            raise ToolError(f"line {token.line}: no section begins here")
-        depth += (token.text == "{") - (token.text == "}")
-        if token.text == ";" and depth <= 0:
-            yield section, item
-            item, depth = [], 0
-        else:
-            item.append(token)
-    if item:
-        raise ToolError(f"line {item[-1].line}: an item without its ;")
-
-
-def items(text: str) -> Iterator[Item]:
-    """The items of a specification in their order."""
-    for section, item in cut(tokens(text)):
-        sign = {"DEFINE": ":=", "INPUT": ""}.get(section, ":")
-        named = len(item) > 1 and item[1].text == sign
-        ends = (item[0].start, item[-1].end) if item else (0, 0)
-        yield Item(section, item[0].text if named else None, item[2:] if named else item, *ends)
-
-
 def declared(item: Item) -> list[tuple[str, str]]:
     """The names and the kind of one item of INPUT."""
     names = [token.text for token in item.body]
@@ -117,7 +50,7 @@ def declared(item: Item) -> list[tuple[str, str]]:
 
 
 def spec_of_text(path: str, text: str) -> Spec:
-    found = list(items(text))
+    found = items(text)
     pairs = [pair for item in found if item.section == "INPUT" for pair in declared(item)]
     signals = [Signal(name, kind, column) for column, (name, kind) in enumerate(pairs)]
     requirements = [item for item in found if item.section in ("FTSPEC", "PTSPEC")]

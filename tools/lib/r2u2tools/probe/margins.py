@@ -5,7 +5,7 @@ from __future__ import annotations
 from dataclasses import dataclass
 from typing import Iterator, Optional
 
-from r2u2tools.common.specs import Token
+from r2u2tools.common.source import Token
 from r2u2tools.probe.mutants import GREATEST, LATEST, around, count_places, interval_places, is_negated, is_number
 from r2u2tools.probe.requirements import Edit, Place, Requirement, Source, kept
 from r2u2tools.probe.trials import Trial, Trials

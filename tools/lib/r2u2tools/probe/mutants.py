@@ -2,12 +2,12 @@
 
 from __future__ import annotations
 
-from dataclasses import dataclass, replace
+from dataclasses import dataclass
 from typing import Iterator
 
 from r2u2tools.common.compiled import arguments
 from r2u2tools.common.expressions import COMPARISONS, TEMPORAL, TRUTHS, Expression, plain, tree_of
-from r2u2tools.common.specs import Token
+from r2u2tools.common.source import Token
 from r2u2tools.probe.requirements import Edit, Place, Requirement, Source
 
 SWAPPED = {
@@ -122,7 +122,7 @@ def comparison_of(body: list[Token], token: Token) -> list[Token]:
 
 def changed(compared: list[Token], token: Token, text: str) -> str:
     """Some tokens as they are written, with a text in the place of one."""
-    return plain("", [replace(it, text=text) if it is token else it for it in compared])
+    return plain("", [it._replace(text=text) if it is token else it for it in compared])
 
 
 def operators(source: Source, number: int) -> Iterator[Mutant]:

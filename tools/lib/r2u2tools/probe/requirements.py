@@ -11,7 +11,8 @@ from typing import Optional
 
 from r2u2tools.common.compiled import is_formula
 from r2u2tools.common.expressions import Expression, plain, tree_of
-from r2u2tools.common.specs import Item, Spec, Token, tokens
+from r2u2tools.common.source import Item, Token, tokens
+from r2u2tools.common.specs import Spec
 from r2u2tools.common.cli import ToolError
 
 

@@ -15,7 +15,8 @@ from r2u2tools.common import cli
 from r2u2tools.common.rerun import TOLD, as_text, fresh, made
 from r2u2tools.common.r2u2_run import Command
 from r2u2tools.common.cli import ToolError
-from r2u2tools.common.specs import Output, Spec, Token
+from r2u2tools.common.source import Token
+from r2u2tools.common.specs import Output, Spec
 from r2u2tools.verdicts.counts import Result, counted
 
 OPEN, CLOSE = "([{", ")]}"

@@ -2,10 +2,17 @@
 
 import re
 from dataclasses import dataclass, field
-from typing import Dict, Iterator, List, Optional, Tuple
+from functools import cached_property
+from typing import Dict, Iterator, List, NamedTuple, Optional, Tuple
 
-from r2u2tools.common.specs import SECTIONS, TOKEN
+from r2u2tools.common.cli import ToolError
 
+SECTIONS = ("STRUCT", "INPUT", "DEFINE", "FTSPEC", "PTSPEC")
+TOKEN = re.compile(
+    r"(?P<blank>[ \t\r\n]+|--[^\n]*)|(?P<word>[A-Za-z_]\w*)|(?P<number>[0-9]+)"
+    r"|(?P<sign><->|->|=>|:=|==|!=|<=|>=|&&|\|\||[(){}\[\],;:.!<>+\-*/%])",
+    re.ASCII,
+)
 RESERVED = (*SECTIONS, *"bool int set true false foreach forsome forexactly foratleast foratmost F G U R S O H".split())
 QUANTIFIERS = ("foreach", "forsome", "forexactly", "foratleast", "foratmost")
 # How many bytes of a specification c2po takes.
@@ -13,18 +20,15 @@ LARGEST = 1 << 20
 NAME = re.compile(r"[A-Za-z_][A-Za-z0-9_]*")
 
 
-@dataclass(frozen=True)
-class Token:
+class Token(NamedTuple):
     """A token and its place. Lines count from 1, columns from 0; `kind` is word, number, sign or bad."""
 
     text: str
     kind: str
     start: int
+    end: int
     line: int
     column: int
-
-    def end(self) -> int:
-        return self.start + len(self.text)
 
     def is_name(self) -> bool:
         return self.kind == "word" and self.text not in RESERVED
@@ -47,8 +51,19 @@ class Item:
     def closed(self) -> bool:
         return self.tokens[-1].text == ";"
 
+    @property
     def start(self) -> int:
         return self.tokens[0].start
+
+    @property
+    def end(self) -> int:
+        """The end of what comes before the `;`."""
+        return self.tokens[-1 - self.closed()].end if len(self.tokens) > self.closed() else self.start
+
+    @property
+    def name(self) -> Optional[str]:
+        """The name of a struct, a definition or an output."""
+        return self.names()[0].text if self.section != "INPUT" and self.names() else None
 
     def names(self) -> List[Token]:
         """The names that the item declares; an output may have none."""
@@ -60,6 +75,7 @@ class Item:
             return [token for token in self.tokens[: texts.index(sign)] if token.is_name()]
         return self.tokens[:1] if texts.index(sign) == 1 else []
 
+    @cached_property
     def body(self) -> List[Token]:
         """The tokens of the expression, without the name and without the `;`."""
         tokens = self.tokens[:-1] if self.closed() else self.tokens
@@ -101,7 +117,7 @@ class Source:
 
     def at(self, place: int) -> Optional[Token]:
         """The token that holds a place of the text, or that ends there."""
-        near = [token for token in self.tokens if token.start <= place <= token.end()]
+        near = [token for token in self.tokens if token.start <= place <= token.end]
         words = [token for token in near if token.kind in ("word", "number")]
         best = words or near
         return best[-1] if best else None
@@ -136,7 +152,7 @@ def read(text: str) -> Source:
         part = TOKEN.match(text, place)
         found, kind = (part[0], part.lastgroup or "") if part else (text[place], "bad")
         if kind != "blank":
-            source.tokens.append(Token(found, kind, place, line, place - began))
+            source.tokens.append(Token(found, kind, place, place + len(found), line, place - began))
         elif found.startswith("--"):
             source.comments.append(Comment(found, place, line))
         place += len(found)
@@ -164,3 +180,27 @@ def cut(tokens: List[Token]) -> Iterator[Item]:
             taken, depth = [], 0
     if taken:
         yield Item(section, taken)
+
+
+def sound(text: str) -> Source:
+    """A text that is read with no fault in a token."""
+    source = read(text)
+    for token in source.tokens:
+        if token.kind == "bad":
+            raise ToolError(f"line {token.line}: bad character")
+    return source
+
+
+def tokens(text: str) -> List[Token]:
+    return sound(text).tokens
+
+
+def items(text: str) -> List[Item]:
+    """The items of a specification; a text that c2po refuses may pass."""
+    found = sound(text).items
+    for item in found:
+        if not item.section:
+            raise ToolError(f"line {item.tokens[0].line}: no section begins here")
+        if not item.closed():
+            raise ToolError(f"line {item.tokens[-1].line}: an item without its ;")
+    return found
