@@ -41,8 +41,8 @@ pub extern "C" fn r2u2_row_many(
     ensures held_back { NOT_OPEN < result → result < NO_ROOM
         → IsHeldBack result why.new (first_row it.old.handle.value numbers.now) it.old.handle.value }
     ensures untold { (result ≤ NOT_OPEN) ⊎ (result ≡ NO_ROOM) → why.new ≡ why.old }
-    ensures kept { 0 < result → it.new.handle.value ≡ it.old.handle.value }
-    ensures unwritten { 0 < result → (reports.new ≡ reports.old) × (batch.new ≡ batch.old) }
+    ensures kept { 0 < result → (it.new.handle.value ≡ it.old.handle.value)
+        × (reports.new ≡ reports.old) × (batch.new ≡ batch.old) }
     ensures codes { Contains
         (DONE ∷ NOT_OPEN ∷ REPORTS_LEFT ∷ NOT_A_ROW ∷ TOO_MANY_ROWS ∷ NO_ROOM ∷ []) result }
 {
